@@ -1,0 +1,19 @@
+-- The lemmas of the crate, each file after those that it uses.
+pub mod Tests
+pub mod Below
+pub mod Some
+pub mod Any
+pub mod Neighbours
+pub mod Neighbourhood
+pub mod Minimal
+pub mod Climb
+pub mod Sole
+pub mod Places
+pub mod Vectors
+pub mod Numbers
+pub mod Count
+pub mod Raises
+pub mod Entries
+pub mod Listing
+pub mod Scan
+pub mod Judged
