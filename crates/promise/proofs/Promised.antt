@@ -9,7 +9,7 @@ use Rattle.promise.specs.Calls.{figures-answer}
 use Rattle.promise.specs.InForce.{left-by, figures-of}
 use Rattle.promise.specs.Rules.{Ruled}
 use Rattle.promise.specs.Promise.{Promise, given-by, Keeps-promise}
-use Rattle.promise.proofs.Rules.{not-outside}
+use Rattle.structure.proofs.Judged.{from-one-to}
 use Rattle.promise.proofs.Stands.{stands}
 use Rattle.promise.proofs.Lived.{lived-left}
 
@@ -17,7 +17,7 @@ use Rattle.promise.proofs.Lived.{lived-left}
 left-promised : (u : Use) → Ruled u → (j : ℕ) → given-by (figures-answer (left-by u) j) (Promise u j)
 left-promised u ruled j =
     cond-both (outside j (shape-of u .best)) (refused 30) (given (figures-of u j)) (λ a. given-by a (Promise u j))
-    (λ yes. tt) (λ no. let inside = not-outside j (shape-of u .best) no in stands u ruled j (inside .0) (inside .1))
+    (λ yes. tt) (λ no. let inside = from-one-to j (shape-of u .best) no in stands u ruled j (inside .0) (inside .1))
 
 pub promised : Keeps-promise
 promised h j a answers u lived =

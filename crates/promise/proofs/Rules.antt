@@ -2,18 +2,18 @@
 -- Assumes nothing.
 use Prim.Native.Nat.{ℕ, _≤_}
 use mathlib.Core.Path.{_≡_, refl}
-use mathlib.Core.Bool.{Bool, true, false, cond, _&&_}
+use mathlib.Core.Bool.{true, false, _&&_}
 use mathlib.Core.List.{List, [], _∷_}
 use native.Mathlib.Nat.{one-le-mul}
 use native.Mathlib.Omega.{arith}
 use lib.ListN.{length}
-use lib.Dec.{leb, ltb, eqb}
-use Rattle.std.specs.shelf.Lists.{All}
-use Rattle.std.proofs.shelf.Tests.{both-ways, not-false, leb-true, ltb-false, eqb-true, and-parts, or-parts}
+use lib.Dec.{ltb, eqb}
+use Rattle.std.proofs.shelf.Tests.{both-ways, not-false, ltb-false, eqb-true, and-parts, or-parts}
 use Rattle.share.specs.Shares.{D, Shares}
-use Rattle.structure.specs.Refusals.{Answer, refused, accepted, first-refusal}
-use Rattle.structure.specs.Conditions.{outside, any-over}
+use Rattle.structure.specs.Refusals.{accepted}
+use Rattle.structure.specs.Conditions.{any-over}
 use Rattle.structure.specs.Shape.{Lawful, top-at, vector-count}
+use Rattle.structure.proofs.Judged.{none-holds, from-one-to}
 use Rattle.promise.specs.Figures.{Rows}
 use Rattle.promise.specs.Use.{Use, opened, entered, carried, stepped, asked, finished, full, still-open, shape-of, examined, is-finished}
 use Rattle.promise.specs.Calls.{enter-tests, enter-answer, carry-tests, carry-answer}
@@ -63,20 +63,7 @@ then-finished (asked u q) h e = then-finished u (h .0) e
 
 -- ## Accepted calls
 
-not-refused : {A : Type 0} (b : Bool) (n : ℕ) (a : Answer A) → accepted (cond b (refused n) a) ≡ true → (b ≡ false) × (accepted a ≡ true)
-not-refused true n a e = absurd (both-ways false refl e)
-not-refused false n a e = (refl, e)
-
--- an accepted call met no condition of its tests
-none-met : {A : Type 0} (cs : List (Bool × ℕ)) (a : A) → accepted (first-refusal cs a) ≡ true → All (λ c. c .0 ≡ false) cs
-none-met [] a e = tt
-none-met (c ∷ cs) a e =
-    let h = not-refused (c .0) (c .1) (first-refusal cs a) e in
-    (h .0, none-met cs a (h .1))
-
-pub not-outside : (i n : ℕ) → outside i n ≡ false → (1 ≤ i) × (i ≤ n)
-not-outside i n e = let p = and-parts (leb 1 i) (leb i n) (not-false (leb 1 i && leb i n) e) in (leb-true 1 i (p .0), leb-true i n (p .1))
-
+-- no number is over the whole
 none-over : (xs : List ℕ) → any-over D xs ≡ false → Shares xs
 none-over [] e = tt
 none-over (x ∷ xs) e = let p = or-parts (ltb D x) (any-over D xs) e in (ltb-false D x (p .0), none-over xs (p .1))
@@ -92,8 +79,8 @@ pub record Entered (u : Use) (i : ℕ) (r : Rows) : Type 0 where
 
 pub enter-accepted : (u : Use) (i : ℕ) (r : Rows) → accepted (enter-answer (shape-of u .tops) i r) ≡ true → Entered u i r
 enter-accepted u i r e =
-    let unmet = none-met (enter-tests (shape-of u .tops) i r) tt e in
-    let inside = not-outside i (length (shape-of u .tops)) (unmet .0) in
+    let unmet = none-holds (enter-tests (shape-of u .tops) i r) tt e in
+    let inside = from-one-to i (length (shape-of u .tops)) (unmet .0) in
     let up = eqb (length (r .up)) (top-at (shape-of u) i) in
     let down = eqb (length (r .down)) (top-at (shape-of u) i) in
     let long = and-parts up down (not-false (up && down) (unmet .1 .0)) in
@@ -115,7 +102,7 @@ pub record Carried (u : Use) (i : ℕ) (m : Use) : Type 0 where
 
 pub carry-accepted : (u : Use) (i : ℕ) (m : Use) → accepted (carry-answer (shape-of u .tops) i (shape-of m .best) (carried-rows m)) ≡ true → Carried u i m
 carry-accepted u i m e =
-    let unmet = none-met (carry-tests (shape-of u .tops) i (shape-of m .best) (carried-rows m)) tt e in
-    let inside = not-outside i (length (shape-of u .tops)) (unmet .0) in
+    let unmet = none-holds (carry-tests (shape-of u .tops) i (shape-of m .best) (carried-rows m)) tt e in
+    let inside = from-one-to i (length (shape-of u .tops)) (unmet .0) in
     let same = eqb (shape-of m .best) (top-at (shape-of u) i) in
     record { first = inside .0; last = inside .1; best = eqb-true (shape-of m .best) (top-at (shape-of u) i) (not-false same (unmet .1 .0)) }

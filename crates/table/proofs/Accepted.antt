@@ -1,17 +1,12 @@
 -- What accepted tops are: each from 1 to 7. Assumes nothing.
-use Prim.Native.Nat.{ℕ, _≤_}
-use native.Mathlib.Omega.{arith}
+use Prim.Native.Nat.{ℕ}
 use mathlib.Core.Path.{_≡_}
 use mathlib.Core.Bool.{false}
 use mathlib.Core.List.{List, [], _∷_}
 use Rattle.std.proofs.shelf.Tests.{or-parts}
-use Rattle.std.proofs.shelf.Ways.{tells}
 use Rattle.structure.specs.Shape.{TopsFit}
 use Rattle.structure.specs.Conditions.{outside, any-outside}
-
--- a number from 1 to n
-pub from-one-to : (x n : ℕ) → outside x n ≡ false → (1 ≤ x) × (x ≤ n)
-from-one-to x n e = (grind (arith, tells), grind (arith, tells))
+use Rattle.structure.proofs.Judged.{from-one-to}
 
 -- each top from 1 to 7
 pub tops-fit : (tops : List ℕ) → any-outside 7 tops ≡ false → TopsFit tops
