@@ -1,4 +1,5 @@
 //! Structures, texts, carried modules and whole studies against answers that are known: tests only.
+#![tactic(auto)]
 
 #[cfg(test)]
 mod carries;

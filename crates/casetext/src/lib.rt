@@ -1,4 +1,5 @@
 //! The case reader: bytes to a case, or a fault with its line.
+#![tactic(auto)]
 
 mod case;
 mod rows;

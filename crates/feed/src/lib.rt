@@ -1,4 +1,5 @@
 //! Feeds: a weight for each component, and a level for each threshold that the weighted sum of the ranks reaches.
+#![tactic(auto)]
 
 mod conditions;
 mod copying;

@@ -1,4 +1,5 @@
 //! The lines of a text and their values: each read with what it says, or with a fault and its line.
+#![tactic(auto)]
 
 mod cut;
 mod fault;

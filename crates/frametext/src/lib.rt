@@ -1,4 +1,5 @@
 //! The first five lines of a case text: components, best level, tops, tags and table.
+#![tactic(auto)]
 
 mod frame;
 

@@ -1,4 +1,5 @@
 //! Numbers of every width, compared as what they are.
+#![tactic(auto)]
 
 ghost use Rattle.std.specs.Prelude.{ℕ, ◌≡◌};
 

@@ -1,4 +1,5 @@
 //! Pairs: two structures joined in series or in parallel.
+#![tactic(auto)]
 
 mod join;
 mod measure;

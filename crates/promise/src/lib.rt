@@ -1,4 +1,5 @@
 //! What a study promises of its figures and of its lists, after any use.
+#![tactic(auto)]
 
 ghost use Rattle.promise.specs.Promise.{Stands, KeepsPromise};
 ghost use Rattle.promise.specs.Shown.{ShowsMet};

@@ -5,6 +5,7 @@
 //! - proofs/Lawful.antt: that raising a rank never lowers the level.
 //!
 //! Rattle proves the rest: that each answer in code is the one that the definitions give.
+#![tactic(auto)]
 
 mod radio;
 

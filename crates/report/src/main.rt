@@ -1,4 +1,6 @@
 // Reads a case text from standard input and prints its report.
+#![tactic(auto)]
+
 ghost use Rattle.std.specs.Prelude.{◌≡◌, ◌+◌, ◌≤◌, length, IfOk, vec_len};
 
 use std::alloc::Global;

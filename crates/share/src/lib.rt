@@ -1,4 +1,5 @@
 //! Shares in whole billionths, and how near rounding keeps them to the exact products.
+#![tactic(auto)]
 
 mod share;
 mod theory;

@@ -1,8 +1,9 @@
 //! Structures: what each answers, the order of its vectors, and the minimal vectors that a study lists.
+#![tactic(auto)]
 
 mod conditions;
 mod interface;
-mod number;
+mod refusal_number;
 mod order;
 mod refusal;
 mod theory;

@@ -1,4 +1,5 @@
 //! A study of a structure: shares entered and carried, minimal vectors examined and listed, and the two figures of each level.
+#![tactic(auto)]
 
 mod carry;
 mod enter;

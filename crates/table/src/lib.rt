@@ -1,8 +1,9 @@
 //! Tables: one level for each vector, lent as bytes in number order.
+#![tactic(auto)]
 
 mod check;
 mod falls;
-mod number;
+mod vector_number;
 mod table;
 
 pub use check::check_levels;

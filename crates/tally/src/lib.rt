@@ -1,4 +1,5 @@
 //! The rows of shares of components, the records of vectors, and what the records of a level give with the rows.
+#![tactic(auto)]
 
 mod checks;
 mod products;

@@ -1,7 +1,7 @@
 // What a table answers.
 ghost use Rattle.table.specs.Contents.{shape_of, tags_of};
 
-use crate::number::number_of;
+use crate::vector_number::number_of;
 use crate::table::Table;
 use structure::Structure;
 

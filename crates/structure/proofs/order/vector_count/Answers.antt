@@ -3,8 +3,8 @@ use Rattle.std.proofs.Common.{◌+◌, ◌*◌, get_or, arith}
 use Rattle.structure.proofs.Count.{product_more, product_all, product_least, many, few}
 use Rattle.structure.proofs.order.vector_count.Goals as goal
 
-pub returns-then-count-gt-MOST-VECTORS : goal.returns-then-count-gt-MOST-VECTORS
-returns-then-count-gt-MOST-VECTORS c =
+pub returns-then-count-gt-MOST_VECTORS : goal.returns-then-count-gt-MOST_VECTORS
+returns-then-count-gt-MOST_VECTORS c =
     let tops = c.args.tops.now in
     let i = c.loop-top.top-index in
     let more = product_more tops i c.loop-top.count (omega arith) c.loop-top.invariant.1 in

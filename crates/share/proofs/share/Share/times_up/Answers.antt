@@ -2,5 +2,5 @@
 use Rattle.std.proofs.Common.{mul-le-mul, arith}
 use Rattle.share.proofs.share.Share.times_up.Goals as goal
 
-pub invariant-of-result : goal.invariant-of-result
-invariant-of-result c = (omega (arith, mul-le-mul c.args.self.fits c.args.other.fits), tt)
+pub invariant_of-result : goal.invariant_of-result
+invariant_of-result c = omega (arith, mul-le-mul c.args.self.fits c.args.other.fits)

@@ -5,17 +5,17 @@ use Rattle.structure.proofs.Count.{Product, product_more, product_all, product_l
 use Rattle.structure.proofs.interface.Structure.vectors.Goals as goal
 
 -- one more top
-more : (g : _) (c : goal.After-unwrap-or g) →
-    Product (g.Self.Structure.shape c.args.self.now).tops (c.loop-i.i + 1) (c.loop-i.count * (c.unwrap-or.result + 1))
+more : (g : _) (c : goal.After-unwrap_or g) →
+    Product (g.Self.Structure.shape c.args.self.now).tops (c.loop-i.i + 1) (c.loop-i.count * (c.unwrap_or.result + 1))
 more g c =
     let tops = (g.Self.Structure.shape c.args.self.now).tops in
-    let top : get_or tops c.loop-i.i 0 ≡ c.unwrap-or.result =
-    sym (c.unwrap-or.ensures ∙ ap (λ o. unwrap_or o 0) c.top.ensures ∙ place_next tops c.loop-i.i (omega arith)) in
+    let top : get_or tops c.loop-i.i 0 ≡ c.unwrap_or.result =
+    sym (c.unwrap_or.ensures ∙ ap (λ o. unwrap_or o 0) c.top.ensures ∙ place_next tops c.loop-i.i (omega arith)) in
     subst (λ a. Product tops (c.loop-i.i + 1) (c.loop-i.count * (a + 1))) top
     (product_more tops c.loop-i.i c.loop-i.count (omega arith) c.loop-i.invariant)
 
-pub overflow-mul-count : goal.overflow-mul-count
-overflow-mul-count g c =
+pub overflow_mul-count : goal.overflow_mul-count
+overflow_mul-count g c =
     let s = g.Self.Structure.shape c.args.self.now in
     omega (arith, product_least s.tops (c.loop-i.i + 1) _ (more g c), (g.met.Self.Structure.lawful c.args.self.now).countable)
 

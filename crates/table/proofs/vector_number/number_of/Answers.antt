@@ -1,7 +1,7 @@
 -- One more rank, a rank over its top, and the end.
 use Rattle.std.proofs.Common.{arith}
 use Rattle.table.proofs.Horner.{read_long, read_over, read_room, read_next, read_end}
-use Rattle.table.proofs.number.number_of.Goals as goal
+use Rattle.table.proofs.vector_number.number_of.Goals as goal
 
 pub returns-then-vector-tops : goal.returns-then-vector-tops
 returns-then-vector-tops c = read_long c.args.tops.now c.args.vector.now c.if-vector-tops.true
