@@ -13,4 +13,4 @@ pub returns : goal.returns
 returns g c =
     let p = c.args.self.now in
     level_split p.join (g.A.Structure.shape p.first) (g.B.Structure.shape p.second) c.args.vector.now
-    c.in-Ok.field-0 c.in-Ok.ensures c.split-level.result c.split-level.ensures
+    c.in-Ok.field-0 c.in-Ok.ensures c.split_level.result c.split_level.ensures
