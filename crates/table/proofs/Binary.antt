@@ -2,7 +2,7 @@
 use Rattle.std.proofs.Common.{refl}
 use Rattle.structure.specs.Shape.{Lawful}
 use Rattle.table.specs.Binary.{binary_shape, binary_tops, binary_levels, binary_tags}
-use Rattle.table.proofs.Passed.{table_lawful}
+use Rattle.table.specs.Passed.{table_lawful}
 
 pub binary_lawful : Lawful binary_shape
 binary_lawful = table_lawful binary_tops 1 binary_tags binary_levels refl

@@ -1,5 +1,4 @@
 -- The lemmas of the crate, each file after those that it uses.
 mod Climbs
 mod Horner
-mod Passed
 mod Binary

@@ -2,3 +2,4 @@
 pub mod Table
 pub mod Binary
 pub mod Contents
+pub mod Passed

@@ -1,5 +1,6 @@
 // What a table answers.
 ghost use Rattle.table.specs.Contents.{shape_of, tags_of};
+ghost use Rattle.table.specs.Passed.{table_lawful, tags_long};
 
 use crate::vector_number::number_of;
 use crate::table::Table;
@@ -9,6 +10,10 @@ impl Structure for Table<'_> {
     ghost shape = { shape_of };
 
     ghost tags = { tags_of };
+
+    ghost lawful = { λ t. table_lawful t.tops.now t.best t.tags.now t.levels.now t.passes };
+
+    ghost tagged = { λ t. tags_long t.tops.now t.best t.tags.now t.levels.now t.passes };
 
     fn components(&self) -> usize {
         self.tops.len()

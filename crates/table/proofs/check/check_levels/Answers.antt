@@ -8,8 +8,8 @@ pub bounds-levels-0 : goal.bounds-levels-0
 bounds-levels-0 c =
     omega (arith, count_pos c.args.tops.now, (count_if_some c.args.tops.now c.in-Some.count (sym c.in-Some.ensures)).0)
 
-pub overflow-sub-count : goal.overflow-sub-count
-overflow-sub-count c =
+pub overflow_sub-count : goal.overflow_sub-count
+overflow_sub-count c =
     omega (arith, count_pos c.args.tops.now, (count_if_some c.args.tops.now c.in-Some.count (sym c.in-Some.ensures)).0)
 
 pub bounds-levels-count : goal.bounds-levels-count

@@ -8,15 +8,15 @@ pub loop-top-init : goal.loop-top-init
 loop-top-init c =
     (c.vectors.invariant.0, c.vectors.invariant.1, along_start c.args.tops.now c.args.levels.now c.vectors.number c.requires (omega arith))
 
-pub nonzero-div-rest : goal.nonzero-div-rest
-nonzero-div-rest c = step_pos c.args.tops.now c.args.levels.now _ _ _ _ (omega arith) c.loop-top.invariant.2
+pub nonzero_div-rest : goal.nonzero_div-rest
+nonzero_div-rest c = step_pos c.args.tops.now c.args.levels.now _ _ _ _ (omega arith) c.loop-top.invariant.2
 
 pub bounds-levels-number : goal.bounds-levels-number
 bounds-levels-number c =
     raise_room c.args.tops.now c.args.levels.now _ _ _ _ (omega arith) c.loop-top.invariant.2 c.if-rest-stride.true
 
-pub nonzero-rem-rest : goal.nonzero-rem-rest
-nonzero-rem-rest c = step_pos c.args.tops.now c.args.levels.now _ _ _ _ (omega arith) c.loop-top.invariant.2
+pub nonzero_rem-rest : goal.nonzero_rem-rest
+nonzero_rem-rest c = step_pos c.args.tops.now c.args.levels.now _ _ _ _ (omega arith) c.loop-top.invariant.2
 
 pub loop-top-preserved : goal.loop-top-preserved
 loop-top-preserved c = (

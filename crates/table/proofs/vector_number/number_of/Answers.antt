@@ -10,12 +10,12 @@ pub returns-then-vector-i : goal.returns-then-vector-i
 returns-then-vector-i c =
     read_over c.args.tops.now c.args.vector.now c.loop-i.i c.loop-i.number (omega arith) (omega arith) c.loop-i.invariant (omega arith)
 
-pub overflow-mul-number : goal.overflow-mul-number
-overflow-mul-number c =
+pub overflow_mul-number : goal.overflow_mul-number
+overflow_mul-number c =
     omega (arith, read_room c.args.tops.now c.args.vector.now c.loop-i.i c.loop-i.number (omega arith) (omega arith) c.loop-i.invariant (omega arith))
 
-pub overflow-add-number-in-loop-i : goal.overflow-add-number-in-loop-i
-overflow-add-number-in-loop-i c =
+pub overflow_add-number-in-loop-i : goal.overflow_add-number-in-loop-i
+overflow_add-number-in-loop-i c =
     omega (arith, read_room c.args.tops.now c.args.vector.now c.loop-i.i c.loop-i.number (omega arith) (omega arith) c.loop-i.invariant (omega arith))
 
 pub loop-i-preserved : goal.loop-i-preserved

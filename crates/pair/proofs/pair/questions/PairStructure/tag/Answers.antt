@@ -9,10 +9,10 @@ returns-in-Some g c =
     tag_first p.join (g.A.Structure.shape p.first) (g.B.Structure.shape p.second) c.args.component
     (g.A.Structure.tags p.first) (g.B.Structure.tags p.second) c.in-Some.tag c.in-Some.ensures
 
-pub returns-in-ok-place : goal.returns-in-ok-place
-returns-in-ok-place g c =
+pub returns-in_ok-place-in-None : goal.returns-in_ok-place-in-None
+returns-in_ok-place-in-None g c =
     let p = c.args.self.now in
     tag_second p.join (g.A.Structure.shape p.first) (g.B.Structure.shape p.second) c.args.component
     (g.A.Structure.tags p.first) (g.B.Structure.tags p.second)
-    c.in-ok-place.place c.tag-in-None.result (g.met.A.Structure.tagged p.first)
-    c.in-ok-place.ensures (search rules)
+    c.in_ok-place-in-None.place c.tag-in-None.result (g.met.A.Structure.tagged p.first)
+    c.in_ok-place-in-None.ensures (search rules)

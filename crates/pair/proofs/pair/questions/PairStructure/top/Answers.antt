@@ -9,8 +9,8 @@ returns-in-Some g c =
     top_first p.join (g.A.Structure.shape p.first) (g.B.Structure.shape p.second) c.args.component
     c.in-Some.top c.in-Some.ensures
 
-pub returns-in-ok-place : goal.returns-in-ok-place
-returns-in-ok-place g c =
+pub returns-in_ok-place-in-None : goal.returns-in_ok-place-in-None
+returns-in_ok-place-in-None g c =
     let p = c.args.self.now in
     top_second p.join (g.A.Structure.shape p.first) (g.B.Structure.shape p.second) c.args.component
-    c.in-ok-place.place c.top-in-None.result c.in-ok-place.ensures (search rules)
+    c.in_ok-place-in-None.place c.top-in-None.result c.in_ok-place-in-None.ensures (search rules)

@@ -1,5 +1,6 @@
 -- What the tests that a table has passed say of it: its shape keeps the rules of a structure. Assumes nothing.
-use Rattle.std.proofs.Common.{◌≡◌, ℕ, ◌-◌, ◌≤◌, false, not, eqb, leb, List, length, get_or, ap, ◌∙◌}
+use Rattle.std.specs.Prelude.{◌≡◌, ℕ, ◌-◌, ◌≤◌, false, not, List, length, ◌==◌, nat_le, slice_index}
+use Rattle.std.proofs.Common.{ap, ◌∙◌}
 use Rattle.std.proofs.lemmas.Bool.{not-false, or_parts, leb-true, eqb-true}
 use Rattle.structure.specs.Shape.{Lawful, vector_count}
 use Rattle.structure.specs.Conditions.{outside, any_outside, any_over}
@@ -11,11 +12,11 @@ use Rattle.structure.proofs.Judged.{none_holds, from_one_to, tops_fit}
 -- no test finds anything wrong
 record Sound (tops : List ℕ) (best : ℕ) (tags levels : List ℕ) : Type 0 where
   components : outside (length tops) 12 ≡ false
-  lengths : not (eqb (length tags) (length tops)) ≡ false
+  lengths : not (length tags == length tops) ≡ false
   each_top : any_outside 7 tops ≡ false
   best_level : outside best 7 ≡ false
-  few : not (leb (vector_count tops) 65536) ≡ false
-  long : not (eqb (length levels) (vector_count tops)) ≡ false
+  few : not (nat_le (vector_count tops) 65536) ≡ false
+  long : not (length levels == vector_count tops) ≡ false
   none_over : any_over best levels ≡ false
   ends : wrong_ends tops best levels ≡ false
   steady : falls tops levels ≡ false
@@ -39,22 +40,22 @@ module _ (tops : List ℕ) (best : ℕ) (tags levels : List ℕ) (passes : Passe
 
   -- as many tags as tops
   pub tags_long : length tags ≡ length tops
-  tags_long = eqb-true (length tags) (length tops) (not-false (eqb (length tags) (length tops)) sound.lengths)
+  tags_long = eqb-true (length tags) (length tops) (not-false (length tags == length tops) sound.lengths)
 
   pub table_count : vector_count tops ≤ 65536
-  table_count = leb-true (vector_count tops) 65536 (not-false (leb (vector_count tops) 65536) sound.few)
+  table_count = leb-true (vector_count tops) 65536 (not-false (nat_le (vector_count tops) 65536) sound.few)
 
   -- a level for each vector
   pub table_long : length levels ≡ vector_count tops
-  table_long = eqb-true (length levels) (vector_count tops) (not-false (eqb (length levels) (vector_count tops)) sound.long)
+  table_long = eqb-true (length levels) (vector_count tops) (not-false (length levels == vector_count tops) sound.long)
 
   -- the first level is 0, and the last the best
-  both_ends : (get_or levels 0 0 ≡ 0) × (get_or levels (vector_count tops - 1) 0 ≡ best)
+  both_ends : (slice_index levels 0 ≡ 0) × (slice_index levels (vector_count tops - 1) ≡ best)
   both_ends =
-      let first = eqb (get_or levels 0 0) 0 in
-      let last = eqb (get_or levels (vector_count tops - 1) 0) best in
+      let first = slice_index levels 0 == 0 in
+      let last = slice_index levels (vector_count tops - 1) == best in
       let h = or_parts (not first) (not last) sound.ends in
-      (eqb-true (get_or levels 0 0) 0 (not-false first h.0), eqb-true (get_or levels (vector_count tops - 1) 0) best (not-false last h.1))
+      (eqb-true (slice_index levels 0) 0 (not-false first h.0), eqb-true (slice_index levels (vector_count tops - 1)) best (not-false last h.1))
 
   pub table_lawful : Lawful (table_shape tops best levels)
   table_lawful =
@@ -67,7 +68,7 @@ module _ (tops : List ℕ) (best : ℕ) (tags levels : List ℕ) (passes : Passe
         best_low = m.0;
         best_high = m.1;
         countable = table_count;
-        bottom = ap (λ k. get_or levels k 0) (number_zero tops) ∙ both_ends.0;
-        top = ap (λ k. get_or levels k 0) (number_tops tops) ∙ both_ends.1;
+        bottom = ap (λ k. slice_index levels k) (number_zero tops) ∙ both_ends.0;
+        top = ap (λ k. slice_index levels k) (number_tops tops) ∙ both_ends.1;
         rises = rises_without_falls tops (table_level tops levels) sound.steady;
       }
