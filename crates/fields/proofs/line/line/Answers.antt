@@ -4,18 +4,18 @@ use Rattle.fields.proofs.Fronts.{after_is, line_is}
 use Rattle.fields.proofs.line.line.Goals as goal
 use Rattle.std.proofs.lemmas.Bool.Decides.{Decides-eqb}
 
-pub returns-in-err-value : goal.returns-in-err-value
-returns-in-err-value c =
+pub returns-in_err-value : goal.returns-in_err-value
+returns-in_err-value c =
     let key = c.args.key.now in
-    let line = c.in-ok-line.line.now in
-    rw c.from-residual-in-err-value.ensures
-    (line_is key c.args.text.now (line, c.in-ok-line.rest.now) None c.in-ok-line.ensures
-    (after_is key line None (strip_prefix_is Decides-eqb line key None c.in-err-value.ensures.cases)))
+    let line = c.in_ok-line.line.now in
+    rw c.from_residual-in_err-value.ensures
+    (line_is key c.args.text.now (line, c.in_ok-line.rest.now) None c.in_ok-line.ensures
+    (after_is key line None (strip_prefix_is Decides-eqb line key None c.in_err-value.ensures.cases)))
 
 pub returns : goal.returns
 returns c =
     let key = c.args.key.now in
-    let line = c.in-ok-line.line.now in
-    let value = c.in-ok-value.value in
-    line_is key c.args.text.now (line, c.in-ok-line.rest.now) (Some value.now) c.in-ok-line.ensures
-    (after_is key line (Some value) (strip_prefix_is Decides-eqb line key (Some value) c.in-ok-value.ensures.cases))
+    let line = c.in_ok-line.line.now in
+    let value = c.in_ok-value.value in
+    line_is key c.args.text.now (line, c.in_ok-line.rest.now) (Some value.now) c.in_ok-line.ensures
+    (after_is key line (Some value) (strip_prefix_is Decides-eqb line key (Some value) c.in_ok-value.ensures.cases))

@@ -7,12 +7,12 @@ pub loop-left-preserved : goal.loop-left-preserved
 loop-left-preserved c =
     level_more (levels_in c.args.text.now) (vec_items c.loop-left.all) c.loop-left.left.now c.loop-left.invariant
     (omega (arith, ltb-false)) c.in-Some.level c.in-Some.ensures
-    (vec_items c.push.new.self) c.in-ok-push.ensures.items
+    (vec_items c.push.new.self) c.in_ok-push.ensures.items
 
-pub returns-in-default-level : goal.returns-in-default-level
-returns-in-default-level c =
+pub returns-in_default-level : goal.returns-in_default-level
+returns-in_default-level c =
     level_other (levels_in c.args.text.now) (vec_items c.loop-left.all) c.loop-left.left.now c.loop-left.invariant
-    (omega (arith, ltb-false)) c.in-default-level.ensures
+    (omega (arith, ltb-false)) c.in_default-level.ensures
 
 pub returns : goal.returns
 returns c =

@@ -11,8 +11,8 @@ use Rattle.frametext.proofs.frame.levels.Goals as goal
 pub returns : goal.returns
 returns c =
     let tests = level_tests c.args.tops.now c.args.best in
-    let cut : Halves = (c.in-ok-value.value.now, c.in-ok-value.rest.now) in
-    let levels = vec_items c.in-ok-levels.levels in
+    let cut : Halves = (c.in_ok-value.value.now, c.in_ok-value.rest.now) in
+    let levels = vec_items c.in_ok-levels.levels in
     rw c.at.ensures
-    (line_tested 5 (codes "table=") levels_in tests c.args.text.now cut levels c.in-ok-value.ensures c.in-ok-levels.ensures
+    (line_tested 5 (codes "table=") levels_in tests c.args.text.now cut levels c.in_ok-value.ensures c.in_ok-levels.ensures
     ∙ ap (at_line 5) (refused_alike tt (levels, cut.1) (number_of c.in-Err.refusal) (tests levels) (c.in-Err.ensures ∙ ap (λ l. level_answer c.args.tops.now c.args.best l) c.deref.ensures.value)))

@@ -10,11 +10,11 @@ pub loop-i-preserved : goal.loop-i-preserved
 loop-i-preserved c =
     let row = c.args.row.now in
     let fit : get_or row c.loop-i.i 0 ≤ D = none_over D row c.loop-i.i c.requires.shares c.loop-i-test.true in
-    let is : c.unwrap-or.result.value ≡ get_or row c.loop-i.i 0 =
-    ap (λ s. s.value) c.unwrap-or.ensures ∙ new_value c.new.result (get_or row c.loop-i.i 0) c.none.result fit c.new.ensures in
+    let is : c.unwrap_or.result.value ≡ get_or row c.loop-i.i 0 =
+    ap (λ s. s.value) c.unwrap_or.ensures ∙ new_value c.new.result (get_or row c.loop-i.i 0) c.none.result fit c.new.ensures in
     let within : c.loop-i.i < length c.loop-i.out = omega arith in (
-      length-set c.loop-i.out c.loop-i.i c.unwrap-or.result ∙ c.loop-i.invariant.0,
-      billionths_more c.loop-i.out row c.loop-i.i c.unwrap-or.result within c.loop-i-test.true is c.loop-i.invariant.1,
+      length-set c.loop-i.out c.loop-i.i c.unwrap_or.result ∙ c.loop-i.invariant.0,
+      billionths_more c.loop-i.out row c.loop-i.i c.unwrap_or.result within c.loop-i-test.true is c.loop-i.invariant.1,
     )
 
 pub returns : goal.returns

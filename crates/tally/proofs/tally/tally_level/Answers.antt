@@ -8,7 +8,7 @@ use Rattle.tally.specs.Model.{shares_by, entries_at, all_where}
 use Rattle.tally.specs.declared.record.Record.{Record}
 use Rattle.tally.proofs.Tallies.{entries_same, count_more, best_more, all_more, where_counts, counts_where, counts_not}
 use Rattle.tally.proofs.tally.tally_level.Goals as goal
-use Rattle.tally.proofs.tally.tally_level.Goals.{then-covers, else-covers, then_finished, else-finished}
+use Rattle.tally.proofs.tally.tally_level.Goals.{then-covers, else-covers, then-finished, else-finished}
 
 -- what stands past the end of the records
 no_record : Record
@@ -27,10 +27,10 @@ loop-entry-preserved c =
       | then-covers w ↦
           (let passes = sym (c.covers.ensures (length rows)) ∙ w.if-covers.true in (
             ap (λ s. s.value) w.best-is ∙ w.larger-best.ensures ∙
-                best_more j rows rs i no_record within passes c.args.best-by c.loop-entry.best.value w.share_of_all.result.value before.0 w.share_of_all.ensures,
+                best_more j rows rs i no_record within passes c.args.best_by c.loop-entry.best.value w.share_of_all.result.value before.0 w.share_of_all.ensures,
             elim w.if-finished.branch [
-              | then_finished v ↦ where_counts c.args.finished _ _ v.if-finished.true (ap (λ s. s.value) (w.all-is ∙ v.all-is) ∙ v.times-down-all.ensures ∙
-                  all_more j rows rs i no_record within passes c.args.all-by c.loop-entry.all.value v.share_of_any.result.value
+              | then-finished v ↦ where_counts c.args.finished _ _ v.if-finished.true (ap (λ s. s.value) (w.all-is ∙ v.all-is) ∙ v.times_down-all.ensures ∙
+                  all_more j rows rs i no_record within passes c.args.all_by c.loop-entry.all.value v.share_of_any.result.value
                   (counts_where c.args.finished _ _ v.if-finished.true before.1) v.share_of_any.ensures)
               | else-finished v ↦ ap (λ s. s.value) (w.all-is ∙ v.all-is) ∙ counts_not c.args.finished _ _ _ v.if-finished.false before.1
             ],
@@ -39,8 +39,8 @@ loop-entry-preserved c =
           ))
       | else-covers w ↦
           (let same = entries_same j rows rs i no_record within (sym (c.covers.ensures (length rows)) ∙ w.if-covers.false) in (
-            ap (λ s. s.value) w.best-is ∙ before.0 ∙ sym (ap (best_of rounded (shares_by c.args.best-by rows)) same),
-            ap (λ s. s.value) w.all-is ∙ before.1 ∙ sym (ap (all_where c.args.finished (shares_by c.args.all-by rows)) same),
+            ap (λ s. s.value) w.best-is ∙ before.0 ∙ sym (ap (best_of rounded (shares_by c.args.best_by rows)) same),
+            ap (λ s. s.value) w.all-is ∙ before.1 ∙ sym (ap (all_where c.args.finished (shares_by c.args.all_by rows)) same),
             w.count-is ∙ before.2 ∙ sym (ap length same),
             omega (arith, w.count-is),
           ))
@@ -51,7 +51,7 @@ returns c =
     let all-records = take_all c.loop-entry.entry-index c.args.records.now c.loop-entry-test.false in
     let at : List Record → List Entry = entries_at c.args.level c.args.rows.now in
     record {
-      best = c.loop-entry.invariant.0 ∙ ap (λ rs. best_of rounded (shares_by c.args.best-by c.args.rows.now) (at rs)) all-records;
-      all = c.loop-entry.invariant.1 ∙ ap (λ rs. all_where c.args.finished (shares_by c.args.all-by c.args.rows.now) (at rs)) all-records;
+      best = c.loop-entry.invariant.0 ∙ ap (λ rs. best_of rounded (shares_by c.args.best_by c.args.rows.now) (at rs)) all-records;
+      all = c.loop-entry.invariant.1 ∙ ap (λ rs. all_where c.args.finished (shares_by c.args.all_by c.args.rows.now) (at rs)) all-records;
       count = c.loop-entry.invariant.2 ∙ ap (λ rs. length (at rs)) all-records;
     }

@@ -9,7 +9,7 @@ use Rattle.tally.proofs.tally.tally_level.Given as goal
 abbrev pub invariant-loop-entry : goal.invariant-loop-entry
 invariant-loop-entry l =
     let so_far : List Entry = entries_at l.level l.rows (take l.entry-index l.records) in
-    (l.best.value ≡ best_of rounded (shares_by l.best-by l.rows) so_far) ×
-    (l.all.value ≡ all_where l.finished (shares_by l.all-by l.rows) so_far) ×
+    (l.best.value ≡ best_of rounded (shares_by l.best_by l.rows) so_far) ×
+    (l.all.value ≡ all_where l.finished (shares_by l.all_by l.rows) so_far) ×
     (l.count ≡ length so_far) ×
     (l.count ≤ l.entry-index)

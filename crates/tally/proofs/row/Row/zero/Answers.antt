@@ -9,6 +9,6 @@ returns c =
     let ranks = min c.args.top 7 in
     let low : ranks ≤ 7 = omega arith in
     c.of.ensures ∙ (λ i. record {
-      up = billionths_none ranks 7 c.none_up.result low c.none_up.ensures i;
+      up = billionths_none ranks 7 c.none-up.result low c.none-up.ensures i;
       down = billionths_none ranks 7 c.none-down.result low c.none-down.ensures i;
     })
