@@ -6,7 +6,7 @@ use Rattle.casetext.proofs.rows.wide.Goals as goal
 pub loop-n-preserved : goal.loop-n-preserved
 loop-n-preserved c =
     copied_more c.args.numbers.now (vec_items c.loop-n.wide) (vec_items c.push.new.self) c.loop-n.n-index c.from.result
-    c.loop-n-test.true c.loop-n.invariant c.in-ok-push.ensures.items c.from.ensures
+    c.loop-n-test.true c.loop-n.invariant c.in_ok-push.ensures.items c.from.ensures
 
 pub returns : goal.returns
 returns c = c.loop-n.invariant ∙ take_all c.loop-n.n-index c.args.numbers.now c.loop-n-test.false

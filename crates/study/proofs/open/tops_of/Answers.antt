@@ -6,10 +6,10 @@ use Rattle.study.proofs.open.tops_of.Goals as goal
 
 pub loop-i-preserved : goal.loop-i-preserved
 loop-i-preserved g c = (
-  omega (arith, c.in-ok-push.ensures.len),
+  omega (arith, c.in_ok-push.ensures.len),
   tops_more (g.S.Structure.shape c.args.structure.now).tops (vec_items c.loop-i.tops) (vec_items c.push.new.self) c.loop-i.i
       (omega arith) c.loop-i.invariant.1
-      (c.in-ok-push.ensures.items ∙ ap (λ x. vec_items c.loop-i.tops ++ x ∷ []) (c.unwrap-or.ensures ∙ ap (λ o. unwrap_or o 0) c.top.ensures)),
+      (c.in_ok-push.ensures.items ∙ ap (λ x. vec_items c.loop-i.tops ++ x ∷ []) (c.unwrap_or.ensures ∙ ap (λ o. unwrap_or o 0) c.top.ensures)),
 )
 
 pub returns : goal.returns

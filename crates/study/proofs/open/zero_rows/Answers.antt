@@ -10,9 +10,9 @@ pub loop-top-preserved : goal.loop-top-preserved
 loop-top-preserved c =
     let top = get_or c.args.tops.now c.loop-top.top-index 0 in
     let low : min top 7 ≡ top = omega (arith, c.requires c.loop-top.top-index (omega arith)) in (
-      omega (arith, c.in-ok-push.ensures.len),
+      omega (arith, c.in_ok-push.ensures.len),
       made_more rows_of no_shares c.args.tops.now (vec_items c.loop-top.rows) (vec_items c.push.new.self) c.zero.result c.loop-top.top-index
-          (omega arith) c.loop-top.invariant.1 c.in-ok-push.ensures.items (c.zero.ensures ∙ ap no_shares low),
+          (omega arith) c.loop-top.invariant.1 c.in_ok-push.ensures.items (c.zero.ensures ∙ ap no_shares low),
     )
 
 pub returns : goal.returns

@@ -9,16 +9,16 @@ use Rattle.summary.specs.Reports.{Reported}
 use Rattle.summary.proofs.CaseUse.{best_held, reported}
 use Rattle.summary.proofs.studied.case_lines.Goals as goal
 
-pub study-lines-requires : goal.study-lines-requires
-study-lines-requires c =
-    let lived = c.in-ok-study.ensures in
-    omega (arith, best_held (content_of c.args.case.now) lived.0 (word_of c.in-ok-study.word) (held c.in-ok-study.study.ledger) lived.1)
+pub study_lines-requires : goal.study_lines-requires
+study_lines-requires c =
+    let lived = c.in_ok-study.ensures in
+    omega (arith, best_held (content_of c.args.case.now) lived.0 (word_of c.in_ok-study.word) (held c.in_ok-study.study.ledger) lived.1)
 
 pub returns : goal.returns
 returns c =
     let case = content_of c.args.case.now in
-    let word = word_of c.in-ok-study.word in
-    let h = held c.in-ok-study.study.ledger in
-    let lived = c.in-ok-study.ensures in
-    IfOk-weaker c.study-lines.result (λ s. string_bytes s ≡ search_line word ++ all_lines (figures_from h) (levels_to case.best)) (λ s. Reported case (string_bytes s))
-    (λ s e. reported case lived.0 word h lived.1 c.requires (string_bytes s) e) c.study-lines.ensures
+    let word = word_of c.in_ok-study.word in
+    let h = held c.in_ok-study.study.ledger in
+    let lived = c.in_ok-study.ensures in
+    IfOk-weaker c.study_lines.result (λ s. string_bytes s ≡ search_line word ++ all_lines (figures_from h) (levels_to case.best)) (λ s. Reported case (string_bytes s))
+    (λ s e. reported case lived.0 word h lived.1 c.requires (string_bytes s) e) c.study_lines.ensures

@@ -13,8 +13,8 @@ returns c =
     let t = c.args.self.now in
     let part = c.args.part.now in
     let rows = carried_from (held part) in
-    let ordered = c.if-is-disordered.ensures ∙ ap disordered c.carried-rows-row.ensures in (
+    let ordered = c.if-is_disordered.ensures ∙ ap disordered c.carried_rows-row.ensures in (
       by_order (vec_items t.tops) c.args.component c.index.result.now part.best rows (omega arith) (omega arith) c.index.ensures
           (given tt) c.if-part-index.false (ap (λ b. cond b (refused 23) (given tt)) ordered),
-      held_rewritten t c.args.component c.carried-rows-row.result rows c.carried-rows-row.ensures,
+      held_rewritten t c.args.component c.carried_rows-row.result rows c.carried_rows-row.ensures,
     )

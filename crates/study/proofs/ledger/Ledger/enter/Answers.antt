@@ -13,6 +13,6 @@ returns c =
     let read = get_or_read (vec_items t.tops) (c.args.component - 1) c.index.result.now (omega arith) c.index.ensures 0 in
     let low : c.index.result.now ≤ 7 = omega (arith, t.low (c.args.component - 1) (omega arith)) in (
       enter_by_rows (vec_items t.tops) c.args.component c.index.result.now rows (given tt)
-          (omega arith) (omega arith) c.index.ensures low c.in-ok-row.ensures.verdict,
-      held_rewritten t c.args.component c.in-ok-row.row rows c.in-ok-row.ensures.rows,
+          (omega arith) (omega arith) c.index.ensures low c.in_ok-row.ensures.verdict,
+      held_rewritten t c.args.component c.in_ok-row.row rows c.in_ok-row.ensures.rows,
     )

@@ -12,8 +12,8 @@ pub returns : goal.returns
 returns c =
     let t = c.args.self.now in
     let level = c.args.level in
-    let paths = c.tally-level-paths in
-    let cuts = c.tally-level-cuts in
+    let paths = c.tally_level-paths in
+    let cuts = c.tally_level-cuts in
     let rows = c.deref.ensures in
     let again = c.deref-3.ensures in
     let path_list = c.deref-2.ensures.value in

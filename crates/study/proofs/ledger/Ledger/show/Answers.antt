@@ -24,5 +24,5 @@ pub returns : goal.returns
 returns c =
     let t = c.args.self.now in
     shown (held t) (side_of c.args.side) (vec_len t.tops) c.records-records.result.now c.args.number c.args.row.now c.records-records.ensures
-    c.if-number-lt1.false c.if-number-records.false (record { vector = []; first = 0; last = 0 }) c.copy-from-slice.new.self
-    (c.if-row-len.false ∙ c.len.ensures) t.tops.ok.0 c.copy-from-slice.ensures.after
+    c.if-number-lt1.false c.if-number-records.false (record { vector = []; first = 0; last = 0 }) c.copy_from_slice.new.self
+    (c.if-row-len.false ∙ c.len.ensures) t.tops.ok.0 c.copy_from_slice.ensures.after

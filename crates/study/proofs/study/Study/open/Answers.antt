@@ -5,6 +5,6 @@ use Rattle.study.proofs.study.Study.open.Goals as goal
 
 pub open-requires : goal.open-requires
 open-requires g c =
-    let t = tops_lawful (g.S.Structure.shape c.args.structure) (vec_items c.in-ok-tops.tops) (vec_len c.in-ok-tops.tops)
-    (g.met.S.Structure.lawful c.args.structure) c.in-ok-tops.ensures c.in-ok-tops.tops.ok.0 in
+    let t = tops_lawful (g.S.Structure.shape c.args.structure) (vec_items c.in_ok-tops.tops) (vec_len c.in_ok-tops.tops)
+    (g.met.S.Structure.lawful c.args.structure) c.in_ok-tops.ensures c.in_ok-tops.tops.ok.0 in
     record { capped = omega (arith, (g.met.S.Structure.lawful c.args.structure).best_high); few = t.few; low = t.low; countable = t.countable }
