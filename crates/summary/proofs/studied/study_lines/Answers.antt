@@ -5,13 +5,13 @@ use Rattle.study.specs.Model.{held}
 use Rattle.summary.specs.Lines.{all_lines}
 use Rattle.summary.proofs.Levels.{lines_more}
 use Rattle.summary.proofs.studied.study_lines.Goals as goal
-use Rattle.summary.proofs.studied.study_lines.Goals.{else-loop-level-test, then-loop-level-test+in_ok-add-level+else·-level-best}
+use Rattle.summary.proofs.studied.study_lines.Goals.{else-loop-level-test, then-loop-level-test+in_ok-add_level+else-level-best}
 
 pub loop-level-preserved : goal.loop-level-preserved
 loop-level-preserved g c =
     let figures = figures_from (held c.args.study.now.ledger) in
     let more = lines_more figures c.loop-level.level (string_bytes c.in_ok-out.out) (string_bytes c.loop-level.out) c.loop-level.invariant.0 c.loop-level.invariant.2 in
-    (omega arith, omega arith, c.in_ok-add-level.ensures ∙ more)
+    (omega arith, omega arith, c.in_ok-add_level.ensures ∙ more)
 
 pub returns : goal.returns
 returns g c =
@@ -21,9 +21,9 @@ returns g c =
       | else-loop-level-test w ↦
           let last : c.loop-level.level - 1 ≡ c.args.best = omega (arith, w.loop-level-test.false) in
           ap string_bytes w.out-is ∙ c.loop-level.invariant.2 ∙ ap (λ j. begun ++ all_lines figures (levels_to j)) last
-      | then-loop-level-test+in_ok-add-level+else·-level-best w ↦
+      | then-loop-level-test+in_ok-add_level+else-level-best w ↦
           let more = lines_more figures c.loop-level.level begun (string_bytes c.loop-level.out) c.loop-level.invariant.0 c.loop-level.invariant.2 in
           let last : c.loop-level.level + 1 - 1 ≡ c.args.best = omega arith in
-          ap string_bytes w.out-is ∙ w.in_ok-add-level.ensures ∙ more ∙ ap (λ j. begun ++ all_lines figures (levels_to j)) last
+          ap string_bytes w.out-is ∙ w.in_ok-add_level.ensures ∙ more ∙ ap (λ j. begun ++ all_lines figures (levels_to j)) last
     ] in
     ends ∙ ap (λ first. first ++ all_lines figures (levels_to c.args.best)) c.in_ok-out.ensures
