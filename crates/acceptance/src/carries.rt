@@ -3,6 +3,7 @@ use crate::support::*;
 use radio::Radio;
 use std::alloc::{AllocError, Global};
 use std::process::Abort;
+use std::test::Fail;
 use structure::Structure;
 use study::{Study, Word};
 use table::Table;

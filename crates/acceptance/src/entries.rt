@@ -1,6 +1,7 @@
 // Every refusal of a study, on both sides of its edge; a refusal leaves the study as it was.
 use crate::support::*;
 use std::process::Abort;
+use std::test::Fail;
 use structure::Structure;
 use study::{Study, Word};
 use table::Table;

@@ -2,6 +2,7 @@
 use crate::support::*;
 use feed::Feed;
 use std::process::Abort;
+use std::test::Fail;
 use structure::Structure;
 use study::{Study, Word};
 

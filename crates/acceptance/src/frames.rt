@@ -1,5 +1,6 @@
 // Frames with known figures.
 use crate::support::*;
+use std::test::Fail;
 use study::{Study, Word};
 use table::Table;
 

@@ -1,6 +1,7 @@
 // A maker's own structure, studied and carried.
 use crate::support::*;
 use radio::Radio;
+use std::test::Fail;
 use study::{Study, Word};
 use table::Table;
 

@@ -4,6 +4,7 @@ use feed::Feed;
 use pair::{Join, Pair};
 use std::alloc::{AllocError, Global};
 use std::process::Abort;
+use std::test::Fail;
 use structure::Structure;
 use study::{Study, Word};
 use table::Table;

@@ -2,6 +2,7 @@
 use crate::support::*;
 use std::alloc::{AllocError, Global};
 use std::process::Abort;
+use std::test::Fail;
 use structure::Structure;
 use study::{Side, Study, Word};
 use table::Table;

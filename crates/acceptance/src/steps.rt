@@ -1,5 +1,6 @@
 // What steps examine, and how they end.
 use crate::support::*;
+use std::test::Fail;
 use study::{Study, Word};
 use table::Table;
 

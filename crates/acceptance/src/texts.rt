@@ -42,16 +42,16 @@ fn reads_a_case(rt: HostRuntime) -> Result<(), Fail> {
     let Ok(case) = read(rt.alloc(), &text) else {
         return Err(Fail::new("a fault"));
     };
-    assert!(rt; case.tops.as_slice() == &[1, 1]);
+    assert!(rt; case.tops.as_slice() == [1, 1].as_slice());
     assert_eq!(rt; case.best, 1);
-    assert!(rt; case.tags.as_slice() == &[7, 4294967295]);
-    assert!(rt; case.levels.as_slice() == &[0, 1, 1, 1]);
+    assert!(rt; case.tags.as_slice() == [7, 4294967295].as_slice());
+    assert!(rt; case.levels.as_slice() == [0, 1, 1, 1].as_slice());
     assert!(rt; case.rows.len() == 2);
     assert!(rt;
-        case.rows[0].up.as_slice() == &[900000000] && case.rows[0].down.as_slice() == &[100000000]
+        case.rows[0].up.as_slice() == [900000000].as_slice() && case.rows[0].down.as_slice() == [100000000].as_slice()
     );
     assert!(rt;
-        case.rows[1].up.as_slice() == &[1000000000] && case.rows[1].down.as_slice() == &[0]
+        case.rows[1].up.as_slice() == [1000000000].as_slice() && case.rows[1].down.as_slice() == [0].as_slice()
     );
     Ok(())
 }
