@@ -48,10 +48,12 @@ fn reads_a_case(rt: HostRuntime) -> Result<(), Fail> {
     assert!(rt; case.levels.as_slice() == [0, 1, 1, 1].as_slice());
     assert!(rt; case.rows.len() == 2);
     assert!(rt;
-        case.rows[0].up.as_slice() == [900000000].as_slice() && case.rows[0].down.as_slice() == [100000000].as_slice()
+        case.rows[0].up.as_slice() == [900000000].as_slice()
+            && case.rows[0].down.as_slice() == [100000000].as_slice()
     );
     assert!(rt;
-        case.rows[1].up.as_slice() == [1000000000].as_slice() && case.rows[1].down.as_slice() == [0].as_slice()
+        case.rows[1].up.as_slice() == [1000000000].as_slice()
+            && case.rows[1].down.as_slice() == [0].as_slice()
     );
     Ok(())
 }

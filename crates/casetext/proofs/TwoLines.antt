@@ -3,8 +3,7 @@ use Rattle.std.proofs.Common.{◌≡◌, ℕ, ◌+◌, List, codes, ap, ◌∙�
 use Rattle.structure.specs.Refusals.{Answer, refused, given, first_refusal}
 use Rattle.promise.specs.Figures.{Rows}
 use Rattle.promise.specs.Calls.{row_tests}
-use Rattle.fields.specs.Lines.{Halves}
-use Rattle.fields.specs.Readings.{Reading, fault, read, at_line}
+use Rattle.fields.specs.Readings.{fault, read, at_line}
 use Rattle.fields.proofs.Refusals.{refused_alike, given_alike}
 use Rattle.fields.proofs.Readings.{goes_on}
 use Rattle.casetext.specs.Case.{row_line, tested_rows, rows_lines}

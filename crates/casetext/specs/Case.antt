@@ -4,7 +4,7 @@ use Rattle.structure.specs.Refusals.{first_refusal}
 use Rattle.promise.specs.Figures.{Rows}
 use Rattle.promise.specs.Calls.{row_tests}
 use Rattle.fields.specs.Numbers.{numbers_in}
-use Rattle.fields.specs.Readings.{Reading, fault, read, at_line, and_then, line_reading}
+use Rattle.fields.specs.Readings.{Reading, read, at_line, and_then, line_reading}
 pub use Rattle.frametext.specs.Frame.{components_line, levels_line, another_count, top_tests, tops_line, tags_line, table_line}
 
 -- a case: the tops, the best level, the tags, a level for each vector, and the two rows of each component

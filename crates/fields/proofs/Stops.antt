@@ -1,5 +1,5 @@
 -- An error of one step is the error of the whole. Assumes nothing.
-use Rattle.std.proofs.Common.{◌≡◌, sym, ap}
+use Rattle.std.proofs.Common.{◌≡◌, ap}
 use Rattle.fields.specs.declared.fault.ReadError.{ReadError}
 use Rattle.fields.specs.declared.fault.ReadError.TheVariants.{Fault, Memory}
 use Rattle.fields.specs.Readings.{Reading, read, and_then}

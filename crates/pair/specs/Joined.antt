@@ -1,5 +1,5 @@
 -- Two structures joined in series or in parallel. Assumes nothing.
-use Rattle.std.specs.Prelude.{ℕ, min, max, List, ◌++◌, length, take, drop, Some, None, Option}
+use Rattle.std.specs.Prelude.{ℕ, min, max, ◌++◌, length, take, drop, Some, None, Option}
 use Rattle.structure.specs.Shape.{Shape}
 use Rattle.pair.specs.declared.join.Join.{Join}
 use Rattle.pair.specs.declared.join.Join.TheVariants.{Series, Parallel}

@@ -1,14 +1,12 @@
 -- The record that show gives is of a minimal vector that the search has met, after every use. Assumes nothing.
-use Rattle.std.proofs.Common.{◌≡◌, ℕ, ◌-◌, ◌<◌, false, cond, not, eqb, List, length, get_or, sym, subst, arith}
+use Rattle.std.proofs.Common.{◌≡◌, ℕ, ◌-◌, ◌<◌, false, cond, not, eqb, List, length, sym, subst, arith}
 use Rattle.std.proofs.lemmas.Bool.{cond_both}
 use Rattle.structure.specs.Refusals.{Answer, refused, given, accepted}
 use Rattle.structure.specs.Conditions.{outside}
-use Rattle.structure.specs.Minimal.{Entry}
 use Rattle.structure.specs.Listing.{Holds}
 use Rattle.structure.proofs.Listing.{listing}
 use Rattle.structure.proofs.Judged.{from_one_to}
 use Rattle.promise.specs.Use.{Use, Side, path_list, cut_list, shape_of, examined}
-use Rattle.promise.specs.Held.{Held}
 use Rattle.promise.specs.Calls.{list_of, no_entry, shown_entry, Shows}
 use Rattle.promise.specs.InForce.{left_by}
 use Rattle.promise.specs.Rules.{Ruled}

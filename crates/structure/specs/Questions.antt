@@ -1,5 +1,5 @@
 -- What a structure's questions answer: none exactly outside. Assumes nothing.
-use Rattle.std.specs.Prelude.{ℕ, ◌-◌, Bool, cond, not, ◌&&◌, List, length, Some, None, Option, nat_le, slice_index}
+use Rattle.std.specs.Prelude.{ℕ, ◌-◌, Bool, cond, ◌&&◌, List, length, Some, None, Option, nat_le, slice_index}
 use Rattle.structure.specs.Shape.{Shape, within, vector_count}
 
 -- from 1 to n

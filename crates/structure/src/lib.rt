@@ -3,9 +3,9 @@
 
 mod conditions;
 mod interface;
-mod refusal_number;
 mod order;
 mod refusal;
+mod refusal_number;
 mod theory;
 
 pub use conditions::{any_fall, any_outside, any_over, any_rise, is_outside};

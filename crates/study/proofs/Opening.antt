@@ -1,7 +1,6 @@
 -- What the loops of an open have read and made so far. Assumes nothing.
-use Rattle.std.proofs.Common.{◌≡◌, ℕ, zero, suc, ◌+◌, ◌-◌, ◌<◌, ◌≤◌, true, cond, ◌&&◌, leb, List, [], ◌∷◌, ◌++◌, map, length, get_or, take, Some, None, unwrap_or, sym, refl, ap, ◌∙◌, subst, ap₂, le_of_suc-le-suc, arith}
+use Rattle.std.proofs.Common.{◌≡◌, ℕ, zero, suc, ◌+◌, ◌<◌, ◌≤◌, List, [], ◌∷◌, ◌++◌, map, length, get_or, take, unwrap_or, sym, ap, ◌∙◌, subst, ap₂, le_of_suc-le-suc, arith}
 use Rattle.std.proofs.lemmas.List.{take_more, map_more, map_push}
-use Rattle.std.proofs.lemmas.Bool.{and_from, le-leb, cond-true}
 use Rattle.structure.specs.Questions.{at_place}
 use Rattle.structure.proofs.Asked.{place_next}
 use Rattle.structure.specs.Shape.{Shape, Lawful, TopsFit, vector_count}

@@ -3,8 +3,8 @@
 
 mod check;
 mod falls;
-mod vector_number;
 mod table;
+mod vector_number;
 
 pub use check::check_levels;
 pub use table::Table;

@@ -1,5 +1,5 @@
 -- The shares of a vector's components, one more at a time, and their products. Assumes nothing.
-use Rattle.std.proofs.Common.{◌≡◌, ℕ, zero, suc, ◌+◌, ◌<◌, ◌≤◌, min, List, [], ◌∷◌, ◌++◌, map, length, get_or, take, Some, None, fold, Option, sym, refl, ap, ◌∙◌, ap₂, add-one, arith, Bor}
+use Rattle.std.proofs.Common.{◌≡◌, ℕ, zero, suc, ◌<◌, ◌≤◌, min, List, [], ◌∷◌, ◌++◌, map, length, get_or, take, Some, None, fold, Option, sym, refl, ap, ◌∙◌, ap₂, add-one, arith, Bor}
 use Rattle.std.proofs.lemmas.List.{map_push, get_or-map, length-map, length_push}
 use Rattle.std.proofs.lemmas.List.Sums.{fold_push}
 use Rattle.std.specs.declared.iter.Zip.{Zip}

@@ -2,8 +2,8 @@
 ghost use Rattle.table.specs.Contents.{shape_of, tags_of};
 ghost use Rattle.table.specs.Passed.{table_lawful, tags_long};
 
-use crate::vector_number::number_of;
 use crate::table::Table;
+use crate::vector_number::number_of;
 use structure::Structure;
 
 impl Structure for Table<'_> {

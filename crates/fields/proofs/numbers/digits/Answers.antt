@@ -1,4 +1,4 @@
-use Rattle.std.proofs.Common.{◌≡◌, get_or, sym, ap, ◌∙◌, arith, rules, ltb-false, ltb-true}
+use Rattle.std.proofs.Common.{get_or, sym, ap, ◌∙◌, arith, rules, ltb-false, ltb-true}
 use Rattle.fields.specs.Numbers.{is_digit, digits_in}
 use Rattle.fields.proofs.Slices.{none_left, some_cond}
 use Rattle.fields.proofs.Digits.{digit_more, digit_over}

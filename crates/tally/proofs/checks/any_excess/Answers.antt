@@ -1,7 +1,7 @@
-use Rattle.std.proofs.Common.{ltb, length, sym, subst, inl, inr, add-one, arith}
+use Rattle.std.proofs.Common.{length, sym, inl, inr, add-one, arith}
 use Rattle.std.proofs.lemmas.Bool.{cases_lt}
 use Rattle.share.specs.Shares.{D}
-use Rattle.tally.proofs.Excess.{SumLeft, sum_more, sum_found, sum_none_left, sum_none_right}
+use Rattle.tally.proofs.Excess.{sum_more, sum_found, sum_none_left, sum_none_right}
 use Rattle.tally.proofs.checks.any_excess.Goals as goal
 
 pub returns-then-is_excess : goal.returns-then-is_excess

@@ -1,5 +1,5 @@
 -- One more level's figures each turn, and in the end all.
-use Rattle.std.proofs.Common.{◌≡◌, ℕ, ◌-◌, min, ◌∙◌, arith, length-set}
+use Rattle.std.proofs.Common.{◌≡◌, ◌-◌, min, ◌∙◌, arith, length-set}
 use Rattle.share.specs.Shares.{D}
 use Rattle.promise.specs.Held.{figures_from}
 use Rattle.study.specs.Model.{held}

@@ -1,5 +1,5 @@
 -- The module's figures replace the rows of the component.
-use Rattle.std.proofs.Common.{cond, vec_items, sym, ap, ◌∙◌, arith}
+use Rattle.std.proofs.Common.{cond, vec_items, ap, ◌∙◌, arith}
 use Rattle.structure.specs.Refusals.{refused, given}
 use Rattle.promise.specs.Held.{carried_from}
 use Rattle.promise.specs.Calls.{disordered}

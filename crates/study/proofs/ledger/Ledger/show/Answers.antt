@@ -1,6 +1,5 @@
 -- No record, no room, or the record's vector and levels.
-use Rattle.std.proofs.Common.{◌≡◌, [], vec_len, sym, ◌∙◌, ⊎_elim, arith}
-use Rattle.tally.specs.declared.record.Record.{Record}
+use Rattle.std.proofs.Common.{[], vec_len, sym, ◌∙◌, ⊎_elim}
 use Rattle.study.specs.Model.{held, side_of}
 use Rattle.study.proofs.Showing.{record_zero, record_past, no_room, shown}
 use Rattle.study.proofs.ledger.Ledger.show.Goals as goal

@@ -1,6 +1,5 @@
 -- Both rows are zero.
-use Rattle.std.proofs.Common.{◌≡◌, ◌≤◌, min, ◌∙◌, arith}
-use Rattle.promise.specs.Figures.{Rows}
+use Rattle.std.proofs.Common.{◌≤◌, min, ◌∙◌, arith}
 use Rattle.tally.proofs.Readings.{billionths_none}
 use Rattle.tally.proofs.row.Row.zero.Goals as goal
 
