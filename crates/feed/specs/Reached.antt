@@ -2,7 +2,7 @@
 -- Assumes nothing.
 use Rattle.std.specs.Prelude.{◌≡◌, ℕ, ◌+◌, ◌<◌, ◌≤◌, cond, List, [], ◌∷◌, length, nat_le, refl}
 use Rattle.std.proofs.Common.{le_refl, arith, ap, ⊎_elim}
-use Rattle.std.specs.List.{AllByRecursion as All}
+use Rattle.std.specs.List.{AllByRecursion}
 use Rattle.std.proofs.lemmas.List.Sums.{sum_by-cons}
 use Rattle.std.proofs.lemmas.Bool.{le-leb, lt-leb, cases_lt}
 use Rattle.feed.specs.Feed.{reached}
@@ -33,11 +33,11 @@ reached_rises (t ∷ ts) x y h =
     omega (arith, first_counted t ts x, first_counted t ts y, counted_rises t x y h, reached_rises ts x y h)
 
 -- a sum below all
-pub reached_none : (ts : List ℕ) (sum : ℕ) → All (λ t. sum < t) ts → reached ts sum ≡ 0
+pub reached_none : (ts : List ℕ) (sum : ℕ) → AllByRecursion (λ t. sum < t) ts → reached ts sum ≡ 0
 reached_none [] sum h = refl
 reached_none (t ∷ ts) sum h = omega (arith, first_counted t ts sum, not_counted t sum h.0, reached_none ts sum h.1)
 
 -- a sum above all
-pub reached_all : (ts : List ℕ) (sum : ℕ) → All (λ t. t ≤ sum) ts → reached ts sum ≡ length ts
+pub reached_all : (ts : List ℕ) (sum : ℕ) → AllByRecursion (λ t. t ≤ sum) ts → reached ts sum ≡ length ts
 reached_all [] sum h = refl
 reached_all (t ∷ ts) sum h = omega (arith, first_counted t ts sum, yes_counted t sum h.0, reached_all ts sum h.1)

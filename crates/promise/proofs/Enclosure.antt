@@ -2,7 +2,7 @@
 use Rattle.std.proofs.Common.{◌≡◌, ℕ, zero, suc, ◌+◌, ◌-◌, ◌<◌, ◌≤◌, Bool, true, false, ◌&&◌, eqb, List, [], ◌∷◌, length, get_or, set, MatchBool, sym, refl, ap, ◌∙◌, subst, ⊎_elim, suc-ne-zero, arith}
 use native.Mathlib.Nat.{suc_inj}
 use lib.ListN.{length-replicate}
-use Rattle.std.specs.List.{AllByRecursion as All}
+use Rattle.std.specs.List.{AllByRecursion}
 use Rattle.std.proofs.lemmas.List.{get_or-set_same, get_or-set_other}
 use Rattle.std.proofs.ByRecursion.{All-from_get_or}
 use Rattle.std.proofs.lemmas.Bool.{cases_Bool, eqb-true, eqb-false}
@@ -59,7 +59,7 @@ first_at (t ∷ tags) (a ∷ tops) (suc i) e h = first_at tags tops i (suc_inj e
 module _ (w : World) where
   -- from each by its number to all
   all_sound : (u : Use) → Ruled u → ((i : ℕ) → 1 ≤ i → i ≤ length (shape_of u).tops → Sound w (component_at (components u) i)) →
-      All (Sound w) (components u)
+      AllByRecursion (Sound w) (components u)
   all_sound u ruled each = All-from_get_or (Sound w) (components u) no_component
       (λ c low.
       let back : c + 1 - 1 ≡ c = omega arith in
@@ -93,7 +93,7 @@ module _ (w : World) where
   sound_at (asked u q) ruled i one last honest = sound_at u ruled.0 i one last honest
 
   -- the components of an honest study are sound
-  pub honest_sound : (u : Use) → Ruled u → Honest w u → All (Sound w) (components u)
+  pub honest_sound : (u : Use) → Ruled u → Honest w u → AllByRecursion (Sound w) (components u)
   honest_sound u ruled honest = all_sound u ruled (λ i one last. sound_at u ruled i one last (honest.each i one last))
 
   -- and there are joint runs

@@ -1,7 +1,7 @@
 -- The rows in force: one for each component, and all their numbers shares. Assumes nothing.
 use Rattle.std.proofs.Common.{◌≡◌, ℕ, zero, suc, ◌-◌, ◌≤◌, Bool, true, false, List, [], ◌∷◌, length, replicate, sym, refl, ap, ◌∙◌, sub-le, arith}
 use lib.ListN.{length-map}
-use Rattle.std.specs.List.{AllByRecursion as All}
+use Rattle.std.specs.List.{AllByRecursion}
 use Rattle.std.proofs.ByRecursion.{All-map, All-set}
 use Rattle.share.specs.Shares.{D, Shares, rounded}
 use Rattle.structure.specs.Refusals.{accepted}
@@ -26,7 +26,7 @@ zeros_fit zero = tt
 zeros_fit (suc n) = (omega arith, zeros_fit n)
 
 -- what a module hands over
-figures_fit : (m : Use) → All RowsFit (in_force m) → RowsFit (carried_rows m)
+figures_fit : (m : Use) → AllByRecursion RowsFit (in_force m) → RowsFit (carried_rows m)
 figures_fit m f =
     let levels : List ℕ = levels_to (shape_of m).best in
     let low : ℕ → ℕ = low_by rounded m in
@@ -41,20 +41,20 @@ figures_fit m f =
 abbrev Fit : Component → Type 0
 Fit c = RowsFit c.rows
 
-first_fit : (tags tops : List ℕ) → All Fit (first_components tags tops)
+first_fit : (tags tops : List ℕ) → AllByRecursion Fit (first_components tags tops)
 first_fit [] tops = tt
 first_fit (t ∷ tags) [] = tt
 first_fit (t ∷ tags) (a ∷ tops) = (record { up = zeros_fit a; down = zeros_fit a }, first_fit tags tops)
 
-replaced_fit : (ok : Bool) (cs : List Component) (i : ℕ) (c : Component) → (ok ≡ true → Fit c) → All Fit cs → All Fit (replaced ok cs i c)
+replaced_fit : (ok : Bool) (cs : List Component) (i : ℕ) (c : Component) → (ok ≡ true → Fit c) → AllByRecursion Fit cs → AllByRecursion Fit (replaced ok cs i c)
 replaced_fit true cs i c h f = All-set Fit cs (i - 1) c (h refl) f
 replaced_fit false cs i c h f = f
 
-rows_fit : (cs : List Component) → All Fit cs → All RowsFit (all_rows cs)
+rows_fit : (cs : List Component) → AllByRecursion Fit cs → AllByRecursion RowsFit (all_rows cs)
 rows_fit = All-map RowsFit (λ c. c.rows)
 
 -- whatever the calls were
-components_fit : (u : Use) → Ruled u → All Fit (components u)
+components_fit : (u : Use) → Ruled u → AllByRecursion Fit (components u)
 components_fit (opened s tags) h = first_fit tags s.tops
 components_fit (entered u i r a) h =
     replaced_fit (accepted a) (components u) i _
@@ -67,5 +67,5 @@ components_fit (carried u i m a) h =
 components_fit (stepped u b k w) h = components_fit u h.0
 components_fit (asked u q) h = components_fit u h.0
 
-pub in_force_fit : (u : Use) → Ruled u → All RowsFit (in_force u)
+pub in_force_fit : (u : Use) → Ruled u → AllByRecursion RowsFit (in_force u)
 in_force_fit u h = rows_fit (components u) (components_fit u h)

@@ -1,6 +1,6 @@
 -- A component that a module of sound components was carried to is sound. Assumes nothing.
 use Rattle.std.proofs.Common.{◌≡◌, ℕ, zero, suc, ◌-◌, ◌≤◌, sym, ap, subst, arith}
-use Rattle.std.specs.List.{AllByRecursion as All}
+use Rattle.std.specs.List.{AllByRecursion}
 use Rattle.share.specs.Shares.{D, rounded}
 use Rattle.structure.proofs.Below.{level_best}
 use Rattle.probability.specs.Runs.{World}
@@ -27,7 +27,7 @@ carried_down m (suc k) one high = row_at (λ j. D - high_by rounded m j) (shape_
 
 -- ## The module as a component
 
-module _ (w : World) (m : Use) (ruled : Ruled m) (a : All (Sound w) (components m)) where
+module _ (w : World) (m : Use) (ruled : Ruled m) (a : AllByRecursion (Sound w) (components m)) where
   -- its figures are shares that its runs bear out
   pub carried_sound : Sound w (carrying m (components m) (shape_of m).best)
   carried_sound = record {

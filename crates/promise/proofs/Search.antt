@@ -1,7 +1,7 @@
 -- The entries of a level: each is minimal for it, and once all vectors are examined every vector has one on its way.
 -- Assumes nothing.
 use Rattle.std.proofs.Common.{◌≡◌, ℕ, zero, suc, ◌<◌, ◌≤◌, T, List, [], ◌∷◌, map, length, get_or, sym, subst, inl, inr, le_of_suc-le-suc, arith}
-use Rattle.std.specs.List.{AllByRecursion as All}
+use Rattle.std.specs.List.{AllByRecursion}
 use Rattle.std.proofs.lemmas.Bool.{cond_both}
 use Rattle.std.proofs.ByRecursion.{All-from_get_or}
 use Rattle.structure.specs.Shape.{Shape, Lawful, within, AllBelow, vector_count}
@@ -17,11 +17,11 @@ use Rattle.promise.specs.Calls.{no_entry}
 -- ## From a list to the entries of a level
 
 -- all that cover the level
-all_of_level : (P : Entry → Type 0) (j : ℕ) (es : List Entry) → All (λ e. T (covers j e) → P e) es → All P (of_level j es)
+all_of_level : (P : Entry → Type 0) (j : ℕ) (es : List Entry) → AllByRecursion (λ e. T (covers j e) → P e) es → AllByRecursion P (of_level j es)
 all_of_level P j [] a = tt
 all_of_level P j (e ∷ es) a =
     let later = all_of_level P j es a.1 in
-    cond_both (covers j e) (e ∷ of_level j es) (of_level j es) (All P) (λ yes. (a.0 (subst T (sym yes) tt), later)) (λ no. later)
+    cond_both (covers j e) (e ∷ of_level j es) (of_level j es) (AllByRecursion P) (λ yes. (a.0 (subst T (sym yes) tt), later)) (λ no. later)
 
 -- one that covers the level
 some_of_level : (P : Entry → Type 0) (j : ℕ) (es : List Entry) (p : ℕ) (d : Entry) →
@@ -41,7 +41,7 @@ some_held P j x es h q =
 -- ## Each entry is minimal
 
 module _ (s : Shape) (Minimal : ℕ → List ℕ → Type 0) (k : ℕ) (es : List Entry) (h : Holds s Minimal k es) (j : ℕ) where
-  all_minimal : All (λ e. Minimal j e.vector) (of_level j es)
+  all_minimal : AllByRecursion (λ e. Minimal j e.vector) (of_level j es)
   all_minimal =
       all_of_level (λ e. Minimal j e.vector) j es
       (All-from_get_or (λ e. T (covers j e) → Minimal j e.vector) es no_entry (λ p inside. covered (get_or es p no_entry) (h.levels p no_entry inside)))
@@ -51,10 +51,10 @@ module _ (s : Shape) (Minimal : ℕ → List ℕ → Type 0) (k : ℕ) (es : Lis
 
 module _ (s : Shape) (l : Lawful s) (k : ℕ) (few : k ≤ vector_count s.tops) (j : ℕ) where
   -- after k vectors, in both lists
-  pub paths_minimal : All (λ e. MinimalPath s j e.vector) (of_level j (paths_of s k))
+  pub paths_minimal : AllByRecursion (λ e. MinimalPath s j e.vector) (of_level j (paths_of s k))
   paths_minimal = all_minimal s (MinimalPath s) k (paths_of s k) ((listing s l).paths_held k few) j
 
-  pub cuts_minimal : All (λ e. MinimalCut s j e.vector) (of_level j (cuts_of s k))
+  pub cuts_minimal : AllByRecursion (λ e. MinimalCut s j e.vector) (of_level j (cuts_of s k))
   cuts_minimal = all_minimal s (MinimalCut s) k (cuts_of s k) ((listing s l).cuts_held k few) j
 
 -- ## Every vector has one on its way

@@ -1,6 +1,6 @@
 -- A test passes at some element, or at none. Assumes nothing.
 use Rattle.std.proofs.Common.{◌≡◌, ℕ, zero, suc, ◌<◌, Bool, true, false, List, [], ◌∷◌, length, get_or, refl, inl, inr, ⊎_elim, le_of_suc-le-suc, arith}
-use Rattle.std.specs.List.{AllByRecursion as All}
+use Rattle.std.specs.List.{AllByRecursion}
 use Rattle.std.proofs.lemmas.Bool.{or_cases, or_parts, or_from, or_left, or_right, false≢true}
 use Rattle.std.proofs.ByRecursion.{All-get_or, All-from_get_or}
 use Rattle.structure.specs.Conditions.{any}
@@ -8,11 +8,11 @@ use Rattle.structure.proofs.Some.{Some}
 
 module _ {A : Type 0} (p : A → Bool) where
   -- it fails at all
-  pub any_none : (xs : List A) → All (λ x. p x ≡ false) xs → any p xs ≡ false
+  pub any_none : (xs : List A) → AllByRecursion (λ x. p x ≡ false) xs → any p xs ≡ false
   any_none [] h = refl
   any_none (x ∷ xs) h = or_from (p x) (any p xs) h.0 (any_none xs h.1)
 
-  pub all_fail : (xs : List A) → any p xs ≡ false → All (λ x. p x ≡ false) xs
+  pub all_fail : (xs : List A) → any p xs ≡ false → AllByRecursion (λ x. p x ≡ false) xs
   all_fail [] e = tt
   all_fail (x ∷ xs) e = let h = or_parts (p x) (any p xs) e in (h.0, all_fail xs h.1)
 

@@ -1,13 +1,13 @@
 -- Conditions of refusals of which none holds. Assumes nothing.
 use Rattle.std.proofs.Common.{◌≡◌, ℕ, ◌≤◌, Bool, true, false, not, ◌&&◌, leb, List, [], ◌∷◌, refl, ap}
-use Rattle.std.specs.List.{AllByRecursion as All}
+use Rattle.std.specs.List.{AllByRecursion}
 use Rattle.std.proofs.lemmas.Bool.{and_from, and_parts, or_parts, not-false, le-leb, leb-true, false≢true}
 use Rattle.structure.specs.Refusals.{accepted, first_refusal}
 use Rattle.structure.specs.Conditions.{outside, any_outside}
 use Rattle.structure.specs.Shape.{TopsFit}
 
 -- where nothing is refused, no condition holds
-pub none_holds : {A : Type 0} (cs : List (Bool × ℕ)) (a : A) → accepted (first_refusal cs a) ≡ true → All (λ c. c.0 ≡ false) cs
+pub none_holds : {A : Type 0} (cs : List (Bool × ℕ)) (a : A) → accepted (first_refusal cs a) ≡ true → AllByRecursion (λ c. c.0 ≡ false) cs
 none_holds [] a e = tt
 none_holds ((true, k) ∷ cs) a e = absurd (false≢true e)
 none_holds ((false, k) ∷ cs) a e = (refl, none_holds cs a e)

@@ -1,6 +1,6 @@
 -- What rises with every single rank rises with the vector, and the vectors one rank higher place by place. Assumes nothing.
 use Rattle.std.proofs.Common.{◌≡◌, ℕ, zero, suc, ◌+◌, ◌<◌, ◌≤◌, Bool, true, false, T, ltb, leb, List, [], ◌∷◌, map, length, get_or, set, refl, ap, inl, inr, ⊎_elim, le_trans, le_refl, le_of_suc-le-suc, add-one, arith, le→leb, leb→le}
-use Rattle.std.specs.List.{AllByRecursion as All}
+use Rattle.std.specs.List.{AllByRecursion}
 use Rattle.std.proofs.lemmas.Bool.{cases_lt, cond_both, ltb-true, ltb-false, lt-ltb, le-ltb}
 use Rattle.std.proofs.ByRecursion.{All-weaker, All-map}
 use Rattle.structure.specs.Shape.{within, AllBelow, vector_count, vectors}
@@ -60,15 +60,15 @@ Raised tops v w = (i : ℕ) × (i < length tops) × (get_or v i 0 < get_or tops 
 raised_later : (a r : ℕ) (tops v w : List ℕ) → Raised tops v w → Raised (a ∷ tops) (r ∷ v) (r ∷ w)
 raised_later a r tops v w p = (suc p.0, omega (arith, p.1), p.2, ap (λ u. r ∷ u) p.3)
 
-pub upper_raised : (tops v : List ℕ) → All (λ w. Raised tops v w) (upper tops v)
+pub upper_raised : (tops v : List ℕ) → AllByRecursion (λ w. Raised tops v w) (upper tops v)
 upper_raised [] v = tt
 upper_raised (a ∷ tops) [] = tt
 upper_raised (a ∷ tops) (r ∷ v) =
-    let rest : All (λ w. Raised (a ∷ tops) (r ∷ v) w) (map (λ w. r ∷ w) (upper tops v)) =
+    let rest : AllByRecursion (λ w. Raised (a ∷ tops) (r ∷ v) w) (map (λ w. r ∷ w) (upper tops v)) =
     All-map (λ w. Raised (a ∷ tops) (r ∷ v) w) (λ w. r ∷ w) (upper tops v)
     (All-weaker (λ w. Raised tops v w) (λ w. Raised (a ∷ tops) (r ∷ v) (r ∷ w)) (λ w p. raised_later a r tops v w p)
     (upper tops v) (upper_raised tops v)) in
-    cond_both (ltb r a) (((r + 1) ∷ v) ∷ map (λ w. r ∷ w) (upper tops v)) (map (λ w. r ∷ w) (upper tops v)) (All (λ w. Raised (a ∷ tops) (r ∷ v) w))
+    cond_both (ltb r a) (((r + 1) ∷ v) ∷ map (λ w. r ∷ w) (upper tops v)) (map (λ w. r ∷ w) (upper tops v)) (AllByRecursion (λ w. Raised (a ∷ tops) (r ∷ v) w))
     (λ e. ((0, omega arith, ltb-true r a e, refl), rest))
     (λ e. rest)
 

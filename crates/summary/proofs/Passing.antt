@@ -1,13 +1,13 @@
 -- Tests that a call or a line has passed. Assumes nothing.
 use Rattle.std.proofs.Common.{◌≡◌, ℕ, ◌+◌, ◌<◌, Bool, true, false, cond, not, eqb, leb, List, [], ◌∷◌, refl, ap, ◌∙◌, arith}
-use Rattle.std.specs.List.{AllByRecursion as All}
+use Rattle.std.specs.List.{AllByRecursion}
 use Rattle.std.proofs.lemmas.Bool.{not-false, not_from_true, eqb-true, eq-eqb, le-leb, and_from}
 use Rattle.structure.specs.Refusals.{Answer, refused, given, first_refusal}
 use Rattle.structure.specs.Conditions.{outside}
 
 -- none of the conditions holds
 abbrev pub Passed : List (Bool × ℕ) → Type 0
-Passed = All (λ t. t.0 ≡ false)
+Passed = AllByRecursion (λ t. t.0 ≡ false)
 
 not_refused : {A : Type 0} (b : Bool) (n : ℕ) (more : Answer A) (a : A) → cond b (refused n) more ≡ given a → (b ≡ false) × (more ≡ given a)
 not_refused true n more a e = let z : ◌≡◌ {A = ℕ} 0 1 = cc in absurd (omega arith)
