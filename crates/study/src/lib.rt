@@ -17,4 +17,5 @@ mod word;
 
 pub use side::Side;
 pub use study::Study;
+pub use tally::check_rows;
 pub use word::Word;
