@@ -1,6 +1,6 @@
 """Runs generated case texts through the report program and through this tool, and finds no difference.
 
-    python3 tools/compare.py target/bin/report [COUNT]
+    python3 tools/compare.py crates/report/out/report [COUNT]
 """
 
 import subprocess

@@ -15,7 +15,6 @@ with_row_at t place w = record {
   finished = t.finished;
   paths = t.paths;
   cuts = t.cuts;
-  capped = t.capped;
   few = t.few;
   low = t.low;
   counted = t.counted;

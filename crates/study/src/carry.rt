@@ -27,6 +27,7 @@ impl Ledger {
 
     // The rows that a carry of this study sets: for each level low, and the whole less high.
     fn carried_rows(&self) -> Row
+        requires { self.now.best ≤ 7 }
         ensures { rows_of result ≡ carried_from (held self.now) }
     {
         let mut up = [Share::none(); 7];

@@ -16,7 +16,6 @@ pub struct Ledger {
     pub(crate) finished: bool,
     pub(crate) paths: Vec<Record>,
     pub(crate) cuts: Vec<Record>,
-    ghost capped: { best ≤ 7 },
     ghost few: { vec_len tops ≤ 12 },
     ghost low: { (k : ℕ) → k < vec_len tops → slice_index tops.items k ≤ 7 },
     ghost counted: { vectors ≡ vector_count tops.items },

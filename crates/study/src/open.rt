@@ -29,7 +29,6 @@ impl<S: Structure + Drop> Study<S> {
 impl Ledger {
     // A ledger of components with these tops: all shares 0, no records, no vector examined.
     fn open(heap: Global, tops: Vec<u8>, best: u8) -> Result<Ledger, AllocError>
-        requires capped { best ≤ 7 }
         requires few { vec_len tops ≤ 12 }
         requires low { (k : ℕ) → k < vec_len tops → slice_index tops.items k ≤ 7 }
         requires countable { vector_count tops.items ≤ 65536 }

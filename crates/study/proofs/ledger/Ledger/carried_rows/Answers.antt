@@ -13,15 +13,15 @@ loop-place-preserved c =
     let inv = c.loop-place.invariant in (
       length-set c.loop-place.up i c.enclosed.result.0 ∙ inv.0,
       length-set c.loop-place.down i c.enclosed.result.1 ∙ inv.1,
-      figures_more (λ j. (figures_from h j).low) c.loop-place.up i c.enclosed.result.0 (omega (arith, c.args.self.now.capped)) c.enclosed.ensures.up inv.2,
-      figures_more (λ j. D - (figures_from h j).high) c.loop-place.down i c.enclosed.result.1 (omega (arith, c.args.self.now.capped)) c.enclosed.ensures.down inv.3,
+      figures_more (λ j. (figures_from h j).low) c.loop-place.up i c.enclosed.result.0 (omega (arith, c.requires)) c.enclosed.ensures.up inv.2,
+      figures_more (λ j. D - (figures_from h j).high) c.loop-place.down i c.enclosed.result.1 (omega (arith, c.requires)) c.enclosed.ensures.down inv.3,
     )
 
 pub returns : goal.returns
 returns c =
     let t = c.args.self.now in
     let i = c.loop-place.place in
-    let all : min t.best 7 ≡ i = omega (arith, t.capped) in
+    let all : min t.best 7 ≡ i = omega (arith, c.requires) in
     let end : i ≡ t.best = omega arith in
     c.of.ensures ∙ (λ k. record {
       up = figures_all (λ j. (figures_from (held t) j).low) c.loop-place.up i (min t.best 7) t.best all end c.loop-place.invariant.2 k;
