@@ -13,7 +13,7 @@ report: program
 
 # Builds the program; the first time this proves every crate below it.
 program:
-	@cd crates/report && rt run < /dev/null > /dev/null
+	@cd crates/report && { said=$$(rt run < /dev/null 2>&1) || { echo "$$said"; exit 1; }; }
 
 # Each shipped case gives its stored report.
 examples: program

@@ -4,7 +4,7 @@ ghost use Rattle.std.specs.Prelude.{◌≡◌, length};
 mod questions;
 
 /// A radio: two transmitters, the components 1 and 2, and a relay chain of three parts, 3 to 5. It holds what differs from
-/// radio to radio, and borrows nothing: for such a type Rattle puts the proof of the interface together.
+/// radio to radio, and borrows nothing.
 #[derive(Clone, Copy)]
 pub struct Radio {
     tags: [u32; 5],

@@ -2,7 +2,6 @@
 // A question that has a body in the interface, as `vectors`, asks nothing of the maker.
 ghost use Rattle.radio.specs.Radio.{radio_shape, radio_tags};
 ghost use Rattle.radio.specs.Lawful.{radio_lawful};
-ghost use Rattle.std.proofs.Common.{rules, arith};
 
 use crate::radio::Radio;
 use structure::Structure;
@@ -14,9 +13,10 @@ impl Structure for Radio {
     // The tags that the answers have to agree with, one for each component.
     ghost tags = { radio_tags };
 
+    // The laws of the interface, each by its proof: the rules of a structure, and one tag for each component.
     ghost lawful = { λ _. radio_lawful };
 
-    ghost tagged = { first_of (Prim.search rules, Prim.grind (arith, Self.row.coded.inj)) };
+    ghost tagged = { λ r. r.tagged };
 
     fn components(&self) -> usize {
         self.tags.len()
