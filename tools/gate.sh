@@ -5,7 +5,7 @@ cd "$(dirname "$0")/.."
 said=$(mktemp)
 trap 'rm -f "$said"' EXIT
 rt ci 2>&1 | tee "$said"
-if grep -qE '^rt: ok.*, [1-9][0-9]* bad' "$said"; then
+if grep -qE '^rt: ok.*, [1-9][0-9]* bad|: BAD EDIT' "$said"; then
     echo 'an edit that must fail could not be tried' >&2
     exit 1
 fi

@@ -1,5 +1,5 @@
 -- A feed of weights and thresholds, and the tests that it has to pass. Assumes nothing.
-use Rattle.std.specs.Prelude.{◌≡◌, ℕ, ◌+◌, ◌-◌, ◌*◌, Bool, true, not, ◌||◌, leb, List, [], ◌∷◌, length, count_by, ◌==◌, nat_le, nat_lt, slice_index}
+use Rattle.std.specs.Prelude.{◌≡◌, ℕ, ◌+◌, ◌-◌, ◌*◌, Bool, true, not, ◌||◌, List, [], ◌∷◌, length, count_by, ◌==◌, nat_le, nat_lt, slice_index}
 use Rattle.structure.specs.Shape.{Shape, vector_count}
 use Rattle.structure.specs.Conditions.{outside, any_outside, any_over, any_fall}
 use Rattle.structure.specs.Refusals.{Answer, accepted, judged}
@@ -12,7 +12,7 @@ weighted (w ∷ weights) (r ∷ ranks) = w * r + weighted weights ranks
 
 -- how many thresholds a sum reaches; an equal one counts as reached
 abbrev pub reached : List ℕ → ℕ → ℕ
-reached thresholds sum = count_by (λ t. leb t sum) thresholds
+reached thresholds sum = count_by (λ t. nat_le t sum) thresholds
 
 -- the level of a vector: how many thresholds its weighted sum reaches
 abbrev pub feed_level : List ℕ → List ℕ → List ℕ → ℕ
