@@ -10,6 +10,6 @@ mod theory;
 
 pub use conditions::{any_fall, any_outside, any_over, any_rise, is_outside};
 pub use interface::Structure;
-pub use order::vector_count;
+pub use order::{MOST_VECTORS, vector_count};
 pub use refusal::Refusal;
 pub use theory::listing_stands;

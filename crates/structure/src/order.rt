@@ -3,7 +3,7 @@ ghost use Rattle.std.specs.Prelude.{◌≡◌};
 ghost use Rattle.structure.specs.Questions.{count_if_few};
 
 /// The most vectors that a structure may have.
-const MOST_VECTORS: usize = 65536;
+pub const MOST_VECTORS: usize = 65536;
 
 /// How many vectors there are; none where there are over 65,536.
 pub fn vector_count(tops: &[u8]) -> Option<usize>
