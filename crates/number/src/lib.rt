@@ -12,11 +12,12 @@ pub trait Number {
         ensures { result ≡ value self.now };
 }
 
+// One impl for each width: std's conversions tell by a relation what they give, and a clause needs the number itself.
 impl Number for u8 {
     ghost value = { λ x. x };
 
     fn wide(&self) -> u64 {
-        *self as u64
+        u64::from(*self)
     }
 }
 
@@ -24,7 +25,7 @@ impl Number for u16 {
     ghost value = { λ x. x };
 
     fn wide(&self) -> u64 {
-        *self as u64
+        u64::from(*self)
     }
 }
 
@@ -32,7 +33,7 @@ impl Number for u32 {
     ghost value = { λ x. x };
 
     fn wide(&self) -> u64 {
-        *self as u64
+        u64::from(*self)
     }
 }
 
@@ -40,6 +41,6 @@ impl Number for u64 {
     ghost value = { λ x. x };
 
     fn wide(&self) -> u64 {
-        u64::from(*self)
+        *self
     }
 }

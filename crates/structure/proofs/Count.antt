@@ -1,5 +1,5 @@
 -- The number of vectors as a product of tops, and where it is small. Assumes nothing.
-use Rattle.std.proofs.Common.{◌≡◌, ℕ, ◌+◌, ◌*◌, ◌<◌, ◌≤◌, List, length, get_or, drop, Some, None, ap, ⊎_elim, mul-le-mul_left, arith}
+use Rattle.std.proofs.Common.{◌≡◌, ℕ, ◌+◌, ◌-◌, ◌*◌, ◌<◌, ◌≤◌, List, length, get_or, drop, Some, None, ap, ⊎_elim, mul-le-mul_left, arith}
 use Rattle.std.proofs.lemmas.Bool.{cases_lt, le-leb, lt-leb}
 use Rattle.std.proofs.lemmas.List.{at_drop_more, at_drop_all}
 use Rattle.structure.specs.Shape.{vector_count}
@@ -11,8 +11,14 @@ module _ (tops : List ℕ) where
   abbrev pub Product : ℕ → ℕ → Type 0
   Product i n = n * vector_count (drop i tops) ≡ vector_count tops
 
-  pub product_more : (i n : ℕ) → i < length tops → Product i n → Product (i + 1) (n * (get_or tops i 0 + 1))
-  product_more i n h e = omega (arith, e, ap (λ c. n * c) (at_drop_more vector_count tops i 0 h))
+  pub product_more : (i n top : ℕ) → i < length tops → Product i n → top ≡ get_or tops i 0 → Product (i + 1) (n * (top + 1))
+  product_more i n top h e t = rw t (omega (arith, e, ap (λ c. n * c) (at_drop_more vector_count tops i 0 h)))
+
+  -- the same by the component, counted from 1
+  pub product_next : (i n top : ℕ) → 1 ≤ i → i ≤ length tops → Product (i - 1) n → top ≡ get_or tops (i - 1) 0 → Product i (n * (top + 1))
+  product_next i n top p q e t =
+      let one_more : i - 1 + 1 ≡ i = omega arith in
+      rw one_more at (product_more (i - 1) n top (omega arith) e t)
 
   pub product_all : (i n : ℕ) → length tops ≤ i → Product i n → n ≡ vector_count tops
   product_all i n h e = omega (arith, e, ap (λ c. n * c) (at_drop_all vector_count tops i h))

@@ -1,49 +1,29 @@
--- A test that passes at some element of a list and the one after it, looked for from the front. Assumes nothing.
-use Rattle.std.proofs.Common.{◌≡◌, ℕ, zero, suc, ◌+◌, ◌-◌, ◌<◌, ◌≤◌, Bool, true, false, ◌||◌, List, [], ◌∷◌, map, length, get_or, drop, sym, refl, ap, ◌∙◌, ap₂, le_of_suc-le-suc, arith}
-use native.Mathlib.Numerals.{unary_clauses}
+-- A test that passes at some element of a list and the one after it. Assumes nothing.
+use Rattle.std.proofs.Common.{◌≡◌, ℕ, zero, suc, ◌<◌, Bool, true, false, not, ◌||◌, List, [], ◌∷◌, map, length, get_or, sym, refl, ap, add-one, le_of_suc-le-suc, arith}
+use Rattle.std.specs.List.{IsAllAdjacentAnswer}
+use Rattle.std.proofs.lemmas.Bool.{or_from, or_left, or_right, not-true, not-false}
 use Rattle.structure.specs.Conditions.{any_next}
 
 module _ {A : Type 0} (p : A → A → Bool) where
-  -- the pairs that begin before k are known to fail
-  abbrev pub NextLeft : List A → ℕ → Type 0
-  NextLeft xs k = any_next p xs ≡ any_next p (drop k xs)
+  next_nowhere : (xs : List A) → ((k : ℕ) (d : A) → suc k < length xs → p (get_or xs k d) (get_or xs (suc k) d) ≡ false) → any_next p xs ≡ false
+  next_nowhere [] h = refl
+  next_nowhere (x ∷ []) h = refl
+  next_nowhere (x ∷ y ∷ xs) h =
+      or_from (p x y) (any_next p (y ∷ xs)) (h 0 x (omega arith))
+      (next_nowhere (y ∷ xs) (λ k d l. h (suc k) d (omega arith)))
 
-  next_cut : (xs : List A) (k : ℕ) (x y : A) → suc k < length xs →
-      any_next p (drop k xs) ≡ (p (get_or xs k x) (get_or xs (suc k) y) || any_next p (drop (suc k) xs))
-  next_cut [] k x y h = absurd (omega arith)
-  next_cut (a ∷ []) k x y h = absurd (omega arith)
-  next_cut (a ∷ b ∷ xs) zero x y h = refl
-  next_cut (a ∷ b ∷ xs) (suc k) x y h = next_cut (b ∷ xs) k x y (le_of_suc-le-suc h)
+  next_at : (xs : List A) (k : ℕ) (d : A) → suc k < length xs → p (get_or xs k d) (get_or xs (suc k) d) ≡ true → any_next p xs ≡ true
+  next_at [] k d h e = absurd (omega arith)
+  next_at (x ∷ []) k d h e = absurd (omega arith)
+  next_at (x ∷ y ∷ xs) zero d h e = or_left (p x y) (any_next p (y ∷ xs)) e
+  next_at (x ∷ y ∷ xs) (suc k) d h e =
+      or_right (p x y) (any_next p (y ∷ xs)) (next_at (y ∷ xs) k d (le_of_suc-le-suc h) e)
 
-  next_short : (xs : List A) (k : ℕ) → length xs ≤ suc k → any_next p (drop k xs) ≡ false
-  next_short [] zero h = refl
-  next_short [] (suc k) h = refl
-  next_short (x ∷ []) zero h = refl
-  next_short (x ∷ []) (suc k) h = next_short [] k (omega arith)
-  next_short (x ∷ y ∷ xs) zero h = absurd (omega arith)
-  next_short (x ∷ y ∷ xs) (suc k) h = next_short (y ∷ xs) k (le_of_suc-le-suc h)
-
-  -- none is left
-  pub next_none : (xs : List A) (k : ℕ) → length xs ≤ suc k → NextLeft xs k → any_next p xs ≡ false
-  next_none xs k h l = l ∙ next_short xs k h
-
-  -- of the pair that stands at the places i - 1 and i
-  module _ (xs : List A) (x y : A) where
-    here : (k : ℕ) → suc k < length xs → x ≡ get_or xs k x → y ≡ get_or xs (suc k) y → NextLeft xs k →
-        any_next p xs ≡ (p x y || any_next p (drop (suc k) xs))
-    here k h f g l = l ∙ next_cut xs k x y h ∙ ap₂ (λ a b. p a b || any_next p (drop (suc k) xs)) (sym f) (sym g)
-
-    -- it fails too
-    pub next_more : (i : ℕ) → 1 ≤ i → i < length xs → x ≡ get_or xs (i - 1) x → y ≡ get_or xs i y → NextLeft xs (i - 1) → p x y ≡ false → NextLeft xs (i + 1 - 1)
-    next_more zero o h f g l e = absurd (omega arith)
-    next_more (suc k) o h f g l e =
-        let s : suc k + 1 - 1 ≡ suc k = omega arith in
-        rw s (here k h (simp unary_clauses at f) g (simp unary_clauses at l) ∙ ap (λ b. b || any_next p (drop (suc k) xs)) e)
-
-    -- it passes
-    pub next_found : (i : ℕ) → 1 ≤ i → i < length xs → x ≡ get_or xs (i - 1) x → y ≡ get_or xs i y → NextLeft xs (i - 1) → p x y ≡ true → any_next p xs ≡ true
-    next_found zero o h f g l e = absurd (omega arith)
-    next_found (suc k) o h f g l e = here k h (simp unary_clauses at f) g (simp unary_clauses at l) ∙ ap (λ b. b || any_next p (drop (suc k) xs)) e
+  -- a list is in an order where no two neighbours break it
+  pub next_unsorted : (xs : List A) (r : Bool) → IsAllAdjacentAnswer (λ x y b. b ≡ not (p x y)) xs r → not r ≡ any_next p xs
+  next_unsorted xs true h = sym (next_nowhere xs (λ k d l. not-true _ (sym (rw (add-one k) at (h k d (omega arith))))))
+  next_unsorted [] false h = absurd (omega (arith, h.1))
+  next_unsorted (x ∷ xs) false h = sym (next_at (x ∷ xs) h.0 x (omega (arith, h.1)) (not-false _ (sym (rw (add-one h.0) at (h.2 x)))))
 
 -- of a mapped list
 pub any_next_map : {A B : Type 0} (p : B → B → Bool) (f : A → B) (xs : List A) → any_next p (map f xs) ≡ any_next (λ x y. p (f x) (f y)) xs

@@ -1,5 +1,6 @@
 -- Conditions on numbers and rows of numbers under which calls refuse. Assumes nothing.
 use Rattle.std.specs.Prelude.{ℕ, ◌+◌, Bool, false, not, ◌&&◌, ◌||◌, List, [], ◌∷◌, nat_le, nat_lt}
+use Rattle.std.specs.List.{list_any}
 
 -- not from 1 to n
 abbrev pub outside : ℕ → ℕ → Bool
@@ -7,8 +8,7 @@ outside i n = not (nat_le 1 i && nat_le i n)
 
 -- the test passes at some element
 abbrev pub any : {A : Type 0} → (A → Bool) → List A → Bool
-any p [] = false
-any p (x ∷ xs) = p x || any p xs
+any = list_any
 
 -- some number is not from 1 to n
 abbrev pub any_outside : ℕ → List ℕ → Bool

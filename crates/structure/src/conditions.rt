@@ -15,46 +15,26 @@ pub fn is_outside(number: u64, most: u64) -> bool
 pub fn any_outside<N: Number>(numbers: &[N], most: u64) -> bool
     ensures { result ≡ any (λ x. outside (N.Number.value x) most) numbers.now }
 {
-    for x in numbers {
-        if is_outside(x.wide(), most) {
-            return true;
-        }
-    }
-    false
+    numbers.iter().any(|x| is_outside(x.wide(), most))
 }
 
 /// Whether some number is over the most.
 pub fn any_over<N: Number>(numbers: &[N], most: u64) -> bool
     ensures { result ≡ any (λ x. nat_lt most (N.Number.value x)) numbers.now }
 {
-    for x in numbers {
-        if x.wide() > most {
-            return true;
-        }
-    }
-    false
+    numbers.iter().any(|x| x.wide() > most)
 }
 
 /// Whether some number is above the one before it.
 pub fn any_rise<N: Number>(numbers: &[N]) -> bool
     ensures { result ≡ any_next (λ x y. nat_lt (N.Number.value x) (N.Number.value y)) numbers.now }
 {
-    for i in 1..numbers.len() {
-        if numbers[i - 1].wide() < numbers[i].wide() {
-            return true;
-        }
-    }
-    false
+    !numbers.is_sorted_by(|x, y| x.wide() >= y.wide())
 }
 
 /// Whether some number is below the one before it.
 pub fn any_fall<N: Number>(numbers: &[N]) -> bool
     ensures { result ≡ any_next (λ x y. nat_lt (N.Number.value y) (N.Number.value x)) numbers.now }
 {
-    for i in 1..numbers.len() {
-        if numbers[i - 1].wide() > numbers[i].wide() {
-            return true;
-        }
-    }
-    false
+    !numbers.is_sorted_by(|x, y| x.wide() <= y.wide())
 }

@@ -35,8 +35,8 @@ pub trait Structure {
         ensures { result ≡ vector_count (shape self.now).tops }
     {
         let mut count: usize = 1;
-        for i in 0..self.components() {
-            count *= self.top(i + 1).unwrap_or(0) as usize + 1;
+        for component in 1..=self.components() {
+            count *= usize::from(self.top(component).unwrap_or(0)) + 1;
         }
         count
     }

@@ -5,7 +5,6 @@ mod conditions;
 mod interface;
 mod order;
 mod refusal;
-mod refusal_number;
 mod theory;
 
 pub use conditions::{any_fall, any_outside, any_over, any_rise, is_outside};

@@ -10,8 +10,8 @@ pub fn vector_count(tops: &[u8]) -> Option<usize>
     ensures { result ≡ count_if_few tops.now }
 {
     let mut count: usize = 1;
-    for top in tops {
-        count *= *top as usize + 1;
+    for &top in tops {
+        count *= usize::from(top) + 1;
         if count > MOST_VECTORS {
             return None;
         }
