@@ -1,6 +1,6 @@
 -- A test that passes at some element of a list, looked for from the front. Assumes nothing.
 use Rattle.std.proofs.Common.{◌≡◌, ℕ, ◌+◌, ◌<◌, ◌≤◌, Bool, true, false, ◌||◌, List, [], ◌∷◌, map, length, get_or, drop, refl, ap, ◌∙◌, ap₂}
-use Rattle.std.proofs.lemmas.List.{drop_more, drop_all}
+use Rattle.std.proofs.lemmas.List.{at_drop_more, at_drop_all}
 use Rattle.structure.specs.Conditions.{any}
 
 module _ {A : Type 0} (p : A → Bool) (xs : List A) where
@@ -9,7 +9,7 @@ module _ {A : Type 0} (p : A → Bool) (xs : List A) where
   LeftAt i = any p xs ≡ any p (drop i xs)
 
   next : (i : ℕ) (d : A) → i < length xs → any p (drop i xs) ≡ (p (get_or xs i d) || any p (drop (i + 1) xs))
-  next i d h = ap (any p) (drop_more xs i d h)
+  next i d h = at_drop_more (any p) xs i d h
 
   -- one more fails
   pub any_more : (i : ℕ) (d : A) → i < length xs → LeftAt i → p (get_or xs i d) ≡ false → LeftAt (i + 1)
@@ -21,7 +21,7 @@ module _ {A : Type 0} (p : A → Bool) (xs : List A) where
 
   -- none is left
   pub any_none : (i : ℕ) → length xs ≤ i → LeftAt i → any p xs ≡ false
-  any_none i h l = l ∙ ap (any p) (drop_all i xs h)
+  any_none i h l = l ∙ at_drop_all (any p) xs i h
 
 -- tests that agree everywhere
 pub any_same : {A : Type 0} (p q : A → Bool) → ((x : A) → p x ≡ q x) → (xs : List A) → any p xs ≡ any q xs

@@ -8,7 +8,7 @@ use number::Number;
 pub fn is_outside(number: u64, most: u64) -> bool
     ensures { result ≡ outside number most }
 {
-    number < 1 || number > most
+    !(1..=most).contains(&number)
 }
 
 /// Whether some number is not from 1 to the most.

@@ -1,6 +1,6 @@
 -- The product goes on with each top, is at most the count, and is the count at the end.
 use Rattle.std.proofs.Common.{◌+◌, ◌*◌, arith}
-use Rattle.structure.proofs.Count.{Product, product_more, product_all, product_least, many, few}
+use Rattle.structure.proofs.Count.{Product, product_more, product_least, many}
 use Rattle.structure.proofs.order.vector_count.Goals as goal
 use Rattle.structure.proofs.order.vector_count.Goals.{After-from}
 
@@ -15,8 +15,3 @@ returns-then-count-gt-MOST_VECTORS c =
 
 pub loop-top-preserved : goal.loop-top-preserved
 loop-top-preserved c = (omega arith, more (goal.at.loop-top-preserved c).After-from)
-
-pub returns : goal.returns
-returns c =
-    let all = product_all c.args.tops.now c.loop-top.top-index c.loop-top.count (omega arith) c.loop-top.invariant.1 in
-    few c.args.tops.now c.loop-top.count c.loop-top.invariant.0 all
