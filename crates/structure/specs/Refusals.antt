@@ -1,5 +1,5 @@
 -- The numbers of the refusals, and what a call that can refuse answers. Assumes nothing.
-use Rattle.std.specs.Prelude.{ℕ, Bool, true, false, cond, List, [], ◌∷◌, Ok, Err, Result}
+use Rattle.std.specs.Prelude.{ℕ, Bool, true, false, if◌then◌else◌, List, [], ◌∷◌, Ok, Err, Result}
 use Rattle.structure.specs.declared.refusal.Refusal.{Refusal}
 use Rattle.structure.specs.declared.refusal.Refusal.TheVariants.{Components, Lengths, Tops, Best, Vectors, TableLength, Values, Ends, Falls, Component, RowLength, OverWhole, RowOrder, Excess, Level, Record, Room, TextLength, Line, Value, Trailing}
 
@@ -39,7 +39,7 @@ accepted (given _) = true
 -- the number of the first condition that holds, or what was asked for where none does
 abbrev pub first_refusal : {A : Type 0} → List (Bool × ℕ) → A → Answer A
 first_refusal [] a = given a
-first_refusal (c ∷ cs) a = cond c.0 (refused c.1) (first_refusal cs a)
+first_refusal (c ∷ cs) a = (if c.0 then refused c.1 else first_refusal cs a)
 
 -- the answer that a result stands for, with what it holds read by f
 abbrev pub answer_by : {A B : Type 0} → (A → B) → Result A Refusal → Answer B
