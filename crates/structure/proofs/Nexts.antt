@@ -5,6 +5,7 @@ use Rattle.std.proofs.lemmas.Bool.{or_from, or_left, or_right, not-true, not-fal
 use Rattle.structure.specs.Conditions.{any_next}
 
 module _ {A : Type 0} (p : A → A → Bool) where
+  -- it passes nowhere, or at one place
   next_nowhere : (xs : List A) → ((k : ℕ) (d : A) → suc k < length xs → p (get_or xs k d) (get_or xs (suc k) d) ≡ false) → any_next p xs ≡ false
   next_nowhere [] h = refl
   next_nowhere (x ∷ []) h = refl
@@ -19,7 +20,7 @@ module _ {A : Type 0} (p : A → A → Bool) where
   next_at (x ∷ y ∷ xs) (suc k) d h e =
       or_right (p x y) (any_next p (y ∷ xs)) (next_at (y ∷ xs) k d (le_of_suc-le-suc h) e)
 
-  -- a list is in an order where no two neighbours break it
+  -- what `is_sorted_by` answers of an order that two neighbours break where the test passes
   pub next_unsorted : (xs : List A) (r : Bool) → IsAllAdjacentAnswer (λ x y b. b ≡ not (p x y)) xs r → not r ≡ any_next p xs
   next_unsorted xs true h = sym (next_nowhere xs (λ k d l. not-true _ (sym (rw (add-one k) at (h k d (omega arith))))))
   next_unsorted [] false h = absurd (omega (arith, h.1))

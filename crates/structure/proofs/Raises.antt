@@ -52,6 +52,7 @@ rises_by_neighbours (a ∷ tops) f steady (r ∷ v) (q ∷ w) t h =
 
 -- ## The vectors one rank higher, by places
 
+-- one of them has one rank more at place i
 pub upper_has : (tops v : List ℕ) (i : ℕ) → T (within tops v) → i < length tops → get_or v i 0 < get_or tops i 0 →
     Some (λ w. w ≡ raised v i) (upper tops v)
 upper_has [] v i t h l = absurd (omega arith)
@@ -77,6 +78,7 @@ module _ {A : Type 0} (p : A → Bool) where
   fails_at xs k d h e = All-get_or (λ x. p x ≡ false) xs k d h (all_fail xs e)
 
 module _ (tops : List ℕ) (f : List ℕ → ℕ) (v : List ℕ) where
+  -- where no vector one rank higher has a lower level
   pub steady_at : T (within tops v) → any (λ w. ltb (f w) (f v)) (upper tops v) ≡ false → SteadyAt tops f v
   steady_at t e i h l =
       let p = some_one (λ w. (ltb (f w) (f v) ≡ false) × (w ≡ raised v i)) (upper tops v)
