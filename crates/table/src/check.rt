@@ -10,16 +10,14 @@ use structure::{Refusal, any_over, vector_count};
 pub fn check_levels(tops: &[u8], best: u8, levels: &[u8]) -> Result<(), Refusal>
     ensures { verdict result ≡ level_answer tops.now best levels.now }
 {
-    let Some(count) = vector_count(tops) else {
-        return Err(Refusal::Vectors);
-    };
+    let count = vector_count(tops).ok_or(Refusal::Vectors)?;
     if levels.len() != count {
         return Err(Refusal::TableLength);
     }
     if any_over(levels, u64::from(best)) {
         return Err(Refusal::Values);
     }
-    if levels[0] != 0 || levels[count - 1] != best {
+    if levels.first() != Some(&0) || levels.last() != Some(&best) {
         return Err(Refusal::Ends);
     }
     if some_fall(tops, levels) {

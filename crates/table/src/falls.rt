@@ -8,18 +8,18 @@ pub(crate) fn some_fall(tops: &[u8], levels: &[u8]) -> bool
     requires { length levels.now ≡ vector_count tops.now }
     ensures { result ≡ falls tops.now levels.now }
 {
-    let mut fell = false;
-    'vectors: for number in 0..levels.len() {
-        let mut stride = levels.len();
-        let mut rest = number;
-        for top in tops {
-            stride /= *top as usize + 1;
-            if rest / stride < *top as usize && levels[number + stride] < levels[number] {
-                fell = true;
-                break 'vectors;
+    'vectors: {
+        for number in 0..levels.len() {
+            let mut stride = levels.len();
+            let mut rest = number;
+            for top in tops {
+                stride /= *top as usize + 1;
+                if rest / stride < *top as usize && levels[number + stride] < levels[number] {
+                    break 'vectors true;
+                }
+                rest %= stride;
             }
-            rest %= stride;
         }
+        false
     }
-    fell
 }

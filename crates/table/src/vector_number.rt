@@ -12,11 +12,11 @@ pub(crate) fn number_of(tops: &[u8], vector: &[u8]) -> Option<usize>
         return None;
     }
     let mut number = 0;
-    for i in 0..tops.len() {
-        if vector[i] > tops[i] {
+    for (rank, top) in vector.iter().zip(tops) {
+        if rank > top {
             return None;
         }
-        number = number * (tops[i] as usize + 1) + vector[i] as usize;
+        number = number * (*top as usize + 1) + *rank as usize;
     }
     Some(number)
 }

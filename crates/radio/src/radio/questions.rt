@@ -34,10 +34,7 @@ impl Structure for Radio {
     }
 
     fn tag(&self, component: usize) -> Option<u32> {
-        if component < 1 || component > self.tags.len() {
-            return None;
-        }
-        Some(self.tags[component - 1])
+        self.tags.get(component.checked_sub(1)?).copied()
     }
 
     // The pattern takes exactly the vectors that have a level: one rank, 0 or 1, for each component.

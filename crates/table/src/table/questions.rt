@@ -24,17 +24,11 @@ impl Structure for Table<'_> {
     }
 
     fn top(&self, component: usize) -> Option<u8> {
-        if component < 1 || component > self.tops.len() {
-            return None;
-        }
-        Some(self.tops[component - 1])
+        self.tops.get(component.checked_sub(1)?).copied()
     }
 
     fn tag(&self, component: usize) -> Option<u32> {
-        if component < 1 || component > self.tags.len() {
-            return None;
-        }
-        Some(self.tags[component - 1])
+        self.tags.get(component.checked_sub(1)?).copied()
     }
 
     fn level(&self, vector: &[u8]) -> Option<u8> {
