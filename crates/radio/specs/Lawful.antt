@@ -1,5 +1,5 @@
--- The radio keeps the rules of a structure. One of them the maker proves, that raising ranks never lowers the level; the others
--- are small facts of the shape, which the search finds. Assumes nothing.
+-- The radio keeps the rules of a structure. One of them is proved by hand, that raising ranks never lowers the level. The others are
+-- small facts of the shape: radio_lawful leaves them to the tactic search, and gives it that proof. Assumes nothing.
 use Rattle.std.specs.Prelude.{◌≡◌, ℕ, ◌<◌, ◌≤◌, T, List, length, slice_index, slice_index_or}
 use Rattle.std.proofs.Common.{arith, rules, ◌∙◌, lit≤}
 use Rattle.std.proofs.lemmas.List.Elements.{length_all_zip, AllZip-get_or}

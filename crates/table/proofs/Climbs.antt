@@ -84,10 +84,10 @@ module _ (tops levels : List ℕ) (k : ℕ) where
     count_next : stride ≡ (get_or tops i 0 + 1) * vector_count (drop (i + 1) tops)
     count_next = along.is ∙ ap vector_count (drop_more tops i 0 h)
 
-    pub step_is : step ≡ vector_count (drop (i + 1) tops)
+    step_is : step ≡ vector_count (drop (i + 1) tops)
     step_is = ap (λ s. s / (get_or tops i 0 + 1)) count_next ∙ mul-div_cancel_left (vector_count (drop (i + 1) tops)) (omega arith)
 
-    pub step_pos : 0 < step
+    step_pos : 0 < step
     step_pos = omega (arith, step_is, count_pos (drop (i + 1) tops))
 
     count_step : stride ≡ (get_or tops i 0 + 1) * step
@@ -98,11 +98,6 @@ module _ (tops levels : List ℕ) (k : ℕ) where
     rank_high =
         let l : rest < (get_or tops i 0 + 1) * step = omega (arith, along.low, count_step) in
         omega (arith, div_below rest step (get_or tops i 0 + 1) step_pos l)
-
-    -- the neighbour one rank higher is in the table
-    pub raise_room : rest / step < get_or tops i 0 → k + step < length levels
-    raise_room l =
-        omega (arith, along.room, along.part, count_step, div-add-mod' rest step, mod_below rest step step_pos, mul-le-mul_right step l)
 
     -- the test of component i, and what is left after it
     falls_after : falls_at tops levels (vector_of tops k)

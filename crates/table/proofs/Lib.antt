@@ -1,4 +1,3 @@
 -- The lemmas of the crate, each file after those that it uses.
 mod Climbs
 mod Horner
-mod Binary

@@ -1,5 +1,5 @@
 -- What a table holds: its shape and its tags, and those of a table that is made. Assumes nothing.
-use Rattle.std.specs.Prelude.{ℕ, cond, List}
+use Rattle.std.specs.Prelude.{ℕ, if◌then◌else◌, List}
 use Rattle.structure.specs.Shape.{Shape}
 use Rattle.structure.specs.Refusals.{accepted}
 use Rattle.table.specs.declared.table.Table.{Table}
@@ -15,7 +15,8 @@ tags_of t = t.tags.now
 
 -- the shape and the tags that a table is made with: those asked for where the check accepts them, else the built-in ones
 abbrev pub made_shape : List ℕ → ℕ → List ℕ → List ℕ → Shape
-made_shape tops best tags levels = cond (accepted (table_answer tops best tags levels)) (table_shape tops best levels) binary_shape
+made_shape tops best tags levels =
+    (if accepted (table_answer tops best tags levels) then table_shape tops best levels else binary_shape)
 
 abbrev pub made_tags : List ℕ → ℕ → List ℕ → List ℕ → List ℕ
-made_tags tops best tags levels = cond (accepted (table_answer tops best tags levels)) tags binary_tags
+made_tags tops best tags levels = (if accepted (table_answer tops best tags levels) then tags else binary_tags)

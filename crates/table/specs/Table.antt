@@ -1,5 +1,5 @@
 -- A table of levels, one for each vector in number order, and the tests that it has to pass. Assumes nothing.
-use Rattle.std.specs.Prelude.{◌≡◌, ℕ, ◌-◌, Bool, true, cond, not, ◌||◌, List, [], ◌∷◌, length, Some, None, Option, ◌==◌, nat_le, nat_lt, slice_index}
+use Rattle.std.specs.Prelude.{◌≡◌, ℕ, ◌-◌, Bool, true, if◌then◌else◌, not, ◌||◌, List, [], ◌∷◌, length, Some, None, Option, ◌==◌, nat_le, nat_lt, slice_index}
 use Rattle.structure.specs.Shape.{Shape, within, vector_count, vectors}
 use Rattle.structure.specs.Order.{number_in}
 use Rattle.structure.specs.Minimal.{upper}
@@ -8,7 +8,7 @@ use Rattle.structure.specs.Refusals.{Answer, accepted, judged}
 
 -- the number of a vector that has one
 abbrev pub number_if_within : List ℕ → List ℕ → Option ℕ
-number_if_within tops v = cond (within tops v) (Some (number_in tops v)) None
+number_if_within tops v = (if within tops v then Some (number_in tops v) else None)
 
 -- the level of a vector: what the table has at its number
 abbrev pub table_level : List ℕ → List ℕ → List ℕ → ℕ

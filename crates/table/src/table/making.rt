@@ -10,6 +10,7 @@ use structure::{Refusal, any_outside, is_outside};
 
 impl Table<'_> {
     /// What is wrong with a table of these contents, the refusal with the smallest number first.
+    // The contents come one by one: a struct that held them would be the table itself.
     pub fn check(tops: &[u8], best: u8, tags: &[u32], levels: &[u8]) -> Result<(), Refusal>
         ensures { verdict result ≡ table_answer tops.now best tags.now levels.now }
     {
