@@ -1,9 +1,9 @@
 -- The upper neighbours of a vector, component by component, by the vector's number. Assumes nothing.
-use Rattle.std.proofs.Common.{◌≡◌, ℕ, ◌+◌, ◌-◌, ◌*◌, ◌/◌, ◌%◌, ◌<◌, ◌≤◌, Bool, true, false, cond, ◌&&◌, ◌||◌, ltb, List, [], ◌∷◌, map, length, get_or, drop, sym, refl, ap, ◌∙◌, ap₂, ⊎_elim, mul-le-mul_right, arith}
+use Rattle.std.proofs.Common.{◌≡◌, ℕ, ◌+◌, ◌-◌, ◌*◌, ◌/◌, ◌%◌, ◌<◌, ◌≤◌, Bool, true, false, cond, ◌&&◌, ◌||◌, ltb, List, [], ◌∷◌, map, length, get_or, sym, refl, ap, ◌∙◌, ap₂, mul-le-mul_right, arith}
 use native.Mathlib.Nat.{mul-div_cancel_left}
-use Rattle.std.proofs.lemmas.List.{drop_more, drop_all}
-use Rattle.std.proofs.lemmas.Bool.{lt-ltb, le-ltb, and_left, and_right, cases_lt}
+use Rattle.std.proofs.lemmas.Bool.{lt-ltb}
 use Rattle.std.proofs.lemmas.Nat.{div-add-mod', div_below, mod_below}
+use Rattle.std.proofs.lemmas.Bool.Decides.{nat_tests}
 use Rattle.structure.specs.Shape.{vector_count, vectors}
 use Rattle.structure.specs.Order.{number_in, vector_of}
 use Rattle.structure.specs.Minimal.{upper}
@@ -20,7 +20,7 @@ any_cond p false x xs = refl
 
 -- a rank at its top, or a level that is not lower
 steady : (r a x y : ℕ) → (r < a → y ≤ x) → (ltb r a && ltb x y) ≡ false
-steady r a x y h = ⊎_elim (λ l. and_right (ltb r a) (ltb x y) (le-ltb x y (h l))) (λ l. and_left (ltb r a) (ltb x y) (le-ltb r a l)) (cases_lt r a)
+steady r a x y h = grind (arith, nat_tests)
 
 module _ (levels : List ℕ) (k : ℕ) where
   -- the vector numbered m has a level below that of the one numbered k
@@ -51,17 +51,17 @@ module _ (levels : List ℕ) (k : ℕ) where
 
 -- ## Along the components
 
--- before component i: how far apart the vectors lie that differ by one rank of the one before it, what the ranks from i on
--- stand for, and that the vector numbered k falls exactly if raising one of these lowers the level
-pub record Along (tops levels : List ℕ) (k i stride rest : ℕ) : Type 0 where
-  pub is : stride ≡ vector_count (drop i tops)
+-- before the components with the tops ts: how far apart the vectors lie that differ by one rank of the component before these, what the
+-- ranks of these stand for, and that the vector numbered k falls exactly if raising one of these lowers the level
+pub record Along (tops levels : List ℕ) (k : ℕ) (ts : List ℕ) (stride rest : ℕ) : Type 0 where
+  pub is : stride ≡ vector_count ts
   pub low : rest < stride
   pub part : rest ≤ k
   pub room : k - rest + stride ≤ length levels
-  pub same : falls_at tops levels (vector_of tops k) ≡ later_falls levels k (k - rest) (drop i tops) rest
+  pub same : falls_at tops levels (vector_of tops k) ≡ later_falls levels k (k - rest) ts rest
 
 module _ (tops levels : List ℕ) (k : ℕ) where
-  pub along_start : length levels ≡ vector_count tops → k < length levels → Along tops levels k 0 (length levels) k
+  pub along_start : length levels ≡ vector_count tops → k < length levels → Along tops levels k tops (length levels) k
   along_start e h = record {
     is = e;
     low = h;
@@ -76,60 +76,55 @@ module _ (tops levels : List ℕ) (k : ℕ) where
         ap₂ (λ m n. ltb (get_or levels m 0) (get_or levels n 0)) z g) (upper tops (vector_of tops k));
   }
 
-  module _ (i stride rest : ℕ) (h : i < length tops) (along : Along tops levels k i stride rest) where
-    -- how far apart the vectors lie that differ by one rank of component i
-    abbrev pub step : ℕ
-    step = stride / (get_or tops i 0 + 1)
+-- no component is left
+pub along_end : {tops levels : List ℕ} {k stride rest : ℕ} → Along tops levels k [] stride rest → falls_at tops levels (vector_of tops k) ≡ false
+along_end along = along.same
 
-    count_next : stride ≡ (get_or tops i 0 + 1) * vector_count (drop (i + 1) tops)
-    count_next = along.is ∙ ap vector_count (drop_more tops i 0 h)
+module _ {tops levels ts : List ℕ} {k a stride rest : ℕ} (along : Along tops levels k (a ∷ ts) stride rest) where
+  -- how far apart the vectors lie that differ by one rank of the component with the top a
+  abbrev step : ℕ
+  step = stride / (a + 1)
 
-    step_is : step ≡ vector_count (drop (i + 1) tops)
-    step_is = ap (λ s. s / (get_or tops i 0 + 1)) count_next ∙ mul-div_cancel_left (vector_count (drop (i + 1) tops)) (omega arith)
+  step_is : step ≡ vector_count ts
+  step_is = ap (λ s. s / (a + 1)) along.is ∙ mul-div_cancel_left (vector_count ts) (omega arith)
 
-    step_pos : 0 < step
-    step_pos = omega (arith, step_is, count_pos (drop (i + 1) tops))
+  step_pos : 0 < step
+  step_pos = omega (arith, step_is, count_pos ts)
 
-    count_step : stride ≡ (get_or tops i 0 + 1) * step
-    count_step = count_next ∙ ap (λ c. (get_or tops i 0 + 1) * c) (sym step_is)
+  count_step : stride ≡ (a + 1) * step
+  count_step = along.is ∙ ap (λ c. (a + 1) * c) (sym step_is)
 
-    -- the vector's rank
-    rank_high : rest / step ≤ get_or tops i 0
-    rank_high =
-        let l : rest < (get_or tops i 0 + 1) * step = omega (arith, along.low, count_step) in
-        omega (arith, div_below rest step (get_or tops i 0 + 1) step_pos l)
+  -- the vector's rank
+  rank_high : rest / step ≤ a
+  rank_high =
+      let l : rest < (a + 1) * step = omega (arith, along.low, count_step) in
+      omega (arith, div_below rest step (a + 1) step_pos l)
 
-    -- the test of component i, and what is left after it
-    falls_after : falls_at tops levels (vector_of tops k)
-        ≡ ((ltb (rest / step) (get_or tops i 0) && lower_than levels k (k + step)) || later_falls levels k (k - rest % step) (drop (i + 1) tops) (rest % step))
-    falls_after =
-        let c = vector_count (drop (i + 1) tops) in
-        let a = get_or tops i 0 in
-        let e : k - rest + rest ≡ k = omega (arith, along.part) in
-        let f : k - rest + rest / c * c ≡ k - rest % c = omega (arith, along.part, div-add-mod' rest c) in
-        along.same
-        ∙ ap (λ ts. later_falls levels k (k - rest) ts rest) (drop_more tops i 0 h)
-        ∙ falls_next levels k (k - rest) a (drop (i + 1) tops) rest e
-        ∙ ap (λ b. (ltb (rest / c) a && lower_than levels k (k + c)) || later_falls levels k b (drop (i + 1) tops) (rest % c)) f
-        ∙ ap (λ s. (ltb (rest / s) a && lower_than levels k (k + s)) || later_falls levels k (k - rest % s) (drop (i + 1) tops) (rest % s)) (sym step_is)
+  -- the test of the component, and what is left after it
+  falls_after : falls_at tops levels (vector_of tops k)
+      ≡ ((ltb (rest / step) a && lower_than levels k (k + step)) || later_falls levels k (k - rest % step) ts (rest % step))
+  falls_after =
+      let c = vector_count ts in
+      let e : k - rest + rest ≡ k = omega (arith, along.part) in
+      let f : k - rest + rest / c * c ≡ k - rest % c = omega (arith, along.part, div-add-mod' rest c) in
+      along.same
+      ∙ falls_next levels k (k - rest) a ts rest e
+      ∙ ap (λ b. (ltb (rest / c) a && lower_than levels k (k + c)) || later_falls levels k b ts (rest % c)) f
+      ∙ ap (λ s. (ltb (rest / s) a && lower_than levels k (k + s)) || later_falls levels k (k - rest % s) ts (rest % s)) (sym step_is)
 
-    -- the neighbour one rank higher has a lower level
-    pub along_fell : rest / step < get_or tops i 0 → get_or levels (k + step) 0 < get_or levels k 0 → falls_at tops levels (vector_of tops k) ≡ true
-    along_fell l m = falls_after ∙ rw (lt-ltb (rest / step) (get_or tops i 0) l, lt-ltb (get_or levels (k + step) 0) (get_or levels k 0) m)
+  -- the neighbour one rank higher has a lower level
+  pub along_fell : rest / step < a → get_or levels (k + step) 0 < get_or levels k 0 → falls_at tops levels (vector_of tops k) ≡ true
+  along_fell l m = falls_after ∙ rw (lt-ltb (rest / step) a l, lt-ltb (get_or levels (k + step) 0) (get_or levels k 0) m)
 
-    -- it has not
-    pub along_next : (rest / step < get_or tops i 0 → get_or levels k 0 ≤ get_or levels (k + step) 0) → Along tops levels k (i + 1) step (rest % step)
-    along_next up = record {
-      is = step_is;
-      low = mod_below rest step step_pos;
-      part = omega (arith, along.part, div-add-mod' rest step);
-      room = omega (arith, along.room, along.part, count_step, div-add-mod' rest step, mul-le-mul_right step rank_high);
-      same = falls_after ∙ ap (λ b. b || later_falls levels k (k - rest % step) (drop (i + 1) tops) (rest % step)) (steady (rest / step) (get_or tops i 0) _ _ up);
-    }
-
-  -- no component is left
-  pub along_end : (i stride rest : ℕ) → length tops ≤ i → Along tops levels k i stride rest → falls_at tops levels (vector_of tops k) ≡ false
-  along_end i stride rest h along = along.same ∙ ap (λ ts. later_falls levels k (k - rest) ts rest) (drop_all i tops h)
+  -- it has not
+  pub along_next : (rest / step < a → get_or levels k 0 ≤ get_or levels (k + step) 0) → Along tops levels k ts step (rest % step)
+  along_next up = record {
+    is = step_is;
+    low = mod_below rest step step_pos;
+    part = omega (arith, along.part, div-add-mod' rest step);
+    room = omega (arith, along.room, along.part, count_step, div-add-mod' rest step, mul-le-mul_right step rank_high);
+    same = falls_after ∙ ap (λ b. b || later_falls levels k (k - rest % step) ts (rest % step)) (steady (rest / step) a _ _ up);
+  }
 
 -- ## Along the vectors
 
