@@ -1,7 +1,7 @@
--- Whether a vector is within the tops, found rank by rank from the first. Assumes nothing.
-use Rattle.std.proofs.Common.{◌≡◌, ℕ, ◌+◌, ◌<◌, ◌≤◌, true, false, ◌&&◌, T, leb, List, length, get_or, drop, sym, ap, ◌∙◌, subst, ap₂, ⊎_elim}
-use Rattle.std.proofs.lemmas.List.{drop_more, drop_all}
-use Rattle.std.proofs.lemmas.Bool.{le-leb, lt-leb, cases_Bool}
+-- Whether a vector is within the tops, told from the pairs of a rank and its top. Assumes nothing.
+use Rattle.std.proofs.Common.{◌≡◌, ℕ, true, ◌&&◌, T, leb, eqb, List, [], ◌∷◌, length, sym, ap, ◌∙◌, subst, ⊎_elim, refl, arith}
+use Rattle.std.specs.List.{zip, list_all}
+use Rattle.std.proofs.lemmas.Bool.{cases_Bool, ne_eqb}
 use Rattle.structure.specs.Shape.{within}
 use Rattle.structure.proofs.Below.{length_within}
 
@@ -9,26 +9,16 @@ use Rattle.structure.proofs.Below.{length_within}
 pub within_length : (tops v : List ℕ) → within tops v ≡ true → length v ≡ length tops
 within_length tops v e = length_within tops v (subst T (sym e) tt)
 
--- a vector of another length
-pub within_long : (tops v : List ℕ) → (length v ≡ length tops → ⊥) → within tops v ≡ false
-within_long tops v n = ⊎_elim (λ e. absurd (n (within_length tops v e))) (λ e. e) (cases_Bool (within tops v))
+-- a vector of another length is not within them
+pub within_other : (tops v : List ℕ) → (length v ≡ length tops → ⊥) → eqb (length v) (length tops) ≡ within tops v
+within_other tops v n = ⊎_elim
+    (λ e. absurd (n (within_length tops v e)))
+    (λ e. ne_eqb (length v) (length tops) n ∙ sym e)
+    (cases_Bool (within tops v))
 
-module _ (tops v : List ℕ) where
-  -- the ranks before place i are within their tops
-  abbrev pub WithinTo : ℕ → Type 0
-  WithinTo i = within tops v ≡ within (drop i tops) (drop i v)
-
-  module _ (i : ℕ) (h : i < length tops) (k : i < length v) (before : WithinTo i) where
-    next : within tops v ≡ (leb (get_or v i 0) (get_or tops i 0) && within (drop (i + 1) tops) (drop (i + 1) v))
-    next = before ∙ ap₂ within (drop_more tops i 0 h) (drop_more v i 0 k)
-
-    -- one more rank is within its top, or over it
-    pub within_more : get_or v i 0 ≤ get_or tops i 0 → WithinTo (i + 1)
-    within_more l = next ∙ ap (λ b. b && within (drop (i + 1) tops) (drop (i + 1) v)) (le-leb (get_or v i 0) (get_or tops i 0) l)
-
-    pub within_over : get_or tops i 0 < get_or v i 0 → within tops v ≡ false
-    within_over l = next ∙ ap (λ b. b && within (drop (i + 1) tops) (drop (i + 1) v)) (lt-leb (get_or v i 0) (get_or tops i 0) l)
-
-  -- every rank is within its top
-  pub within_all : (i : ℕ) → length tops ≤ i → length v ≤ i → WithinTo i → within tops v ≡ true
-  within_all i h k before = before ∙ ap₂ within (drop_all i tops h) (drop_all i v k)
+-- one of their length
+pub within_zip : (tops v : List ℕ) → length v ≡ length tops → list_all (λ p. leb p.0 p.1) (zip v tops) ≡ within tops v
+within_zip [] [] e = refl
+within_zip [] (r ∷ v) e = absurd (omega arith)
+within_zip (a ∷ tops) [] e = absurd (omega arith)
+within_zip (a ∷ tops) (r ∷ v) e = ap (λ b. leb r a && b) (within_zip tops v (omega arith))

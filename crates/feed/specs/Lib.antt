@@ -1,4 +1,5 @@
 -- The definitions of the crate, each file after those that it uses.
+pub mod Few
 pub mod Feed
 pub mod Binary
 pub mod Contents

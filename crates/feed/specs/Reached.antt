@@ -1,9 +1,9 @@
 -- How many thresholds a sum reaches: a higher sum no fewer, one below all of them none, and one above all of them all.
 -- Assumes nothing.
 use Rattle.std.specs.Prelude.{◌≡◌, ℕ, ◌+◌, ◌<◌, ◌≤◌, cond, List, [], ◌∷◌, length, nat_le, refl}
-use Rattle.std.proofs.Common.{le_refl, arith, ap, ⊎_elim}
+use Rattle.std.proofs.Common.{arith, ap, ⊎_elim}
 use Rattle.std.specs.List.{AllByRecursion}
-use Rattle.std.proofs.lemmas.List.Sums.{sum_by-cons}
+use Rattle.std.proofs.lemmas.List.Sums.{sum_by-cons, sum_by-le-sum_by}
 use Rattle.std.proofs.lemmas.Bool.{le-leb, lt-leb, cases_lt}
 use Rattle.feed.specs.Feed.{reached}
 
@@ -28,9 +28,7 @@ counted_rises t x y h = ⊎_elim
 
 -- a higher sum
 pub reached_rises : (ts : List ℕ) (x y : ℕ) → x ≤ y → reached ts x ≤ reached ts y
-reached_rises [] x y h = le_refl 0
-reached_rises (t ∷ ts) x y h =
-    omega (arith, first_counted t ts x, first_counted t ts y, counted_rises t x y h, reached_rises ts x y h)
+reached_rises ts x y h = sum_by-le-sum_by (counted x) (counted y) ts (λ t. counted_rises t x y h)
 
 -- a sum below all
 pub reached_none : (ts : List ℕ) (sum : ℕ) → AllByRecursion (λ t. sum < t) ts → reached ts sum ≡ 0

@@ -1,8 +1,9 @@
--- The weighted sum: it rises with the ranks, and is summed component by component. Assumes nothing.
-use Rattle.std.specs.Prelude.{◌≡◌, ℕ, ◌+◌, ◌*◌, ◌<◌, ◌≤◌, List, [], ◌∷◌, map, length, drop, slice_index, refl}
-use Rattle.std.proofs.Common.{le_refl, mul-le-mul, mul-le-mul_left, add-le-add, arith, ap, ap₂, Fits}
+-- The weighted sum: it rises with the ranks, and is the sum over the pairs. Assumes nothing.
+use Rattle.std.specs.Prelude.{◌≡◌, ℕ, suc, ◌+◌, ◌*◌, ◌≤◌, List, [], ◌∷◌, map, length, sum_by, refl}
+use Rattle.std.proofs.Common.{le_refl, mul-le-mul, mul-le-mul_left, add-le-add, arith, ap, ◌∙◌, get_or, Fits}
 use Rattle.std.specs.Int.{w8, w16}
-use Rattle.std.proofs.lemmas.List.{drop_more, drop_all}
+use Rattle.std.specs.List.{zip}
+use Rattle.std.proofs.lemmas.List.Sums.{sum_by-cons}
 use Rattle.structure.specs.Shape.{AllBelow}
 use Rattle.feed.specs.Feed.{weighted}
 
@@ -20,20 +21,19 @@ weighted_rises (w ∷ weights) [] (s ∷ v) h = absurd h
 weighted_rises (w ∷ weights) (r ∷ u) [] h = absurd h
 weighted_rises (w ∷ weights) (r ∷ u) (s ∷ v) h = add-le-add (mul-le-mul_left w h.0) (weighted_rises weights u v h.1)
 
--- a weight of 16 bits times a rank of 8
-pub product_small : (w r : ℕ) → Fits w16 w → Fits w8 r → w * r ≤ 16711425
-product_small w r h k =
-    let a : w ≤ 65535 = omega arith in
-    let b : r ≤ 255 = omega arith in
-    mul-le-mul a b
+-- weight and rank pair by pair
+pub weighted_zip : (weights ranks : List ℕ) → sum_by (λ p. p.0 * p.1) (zip weights ranks) ≡ weighted weights ranks
+weighted_zip [] ranks = refl
+weighted_zip (w ∷ weights) [] = refl
+weighted_zip (w ∷ weights) (r ∷ ranks) =
+    let f : ℕ × ℕ → ℕ = λ p. p.0 * p.1 in sum_by-cons f (w, r) (zip weights ranks) ∙ ap (λ n. w * r + n) (weighted_zip weights ranks)
 
-module _ (weights ranks : List ℕ) where
-  -- n is the sum over the components before place i
-  abbrev pub Summed : ℕ → ℕ → Type 0
-  Summed i n = n + weighted (drop i weights) (drop i ranks) ≡ weighted weights ranks
-
-  pub summed_more : (i n : ℕ) → i < length weights → i < length ranks → Summed i n → Summed (i + 1) (n + slice_index weights i * slice_index ranks i)
-  summed_more i n h k e = omega (arith, e, ap₂ weighted (drop_more weights i 0 h) (drop_more ranks i 0 k))
-
-  pub summed_all : (i n : ℕ) → length weights ≤ i → Summed i n → n ≡ weighted weights ranks
-  summed_all i n h e = omega (arith, e, ap (λ ws. weighted ws (drop i ranks)) (drop_all i weights h))
+-- each weight has 16 bits, and each rank 8
+pub weighted_few : (weights ranks : List ℕ) → ((i : ℕ) → Fits w16 (get_or weights i 0)) → ((i : ℕ) → Fits w8 (get_or ranks i 0)) →
+    weighted weights ranks ≤ 16711425 * length weights
+weighted_few [] ranks h k = omega arith
+weighted_few (w ∷ weights) [] h k = omega arith
+weighted_few (w ∷ weights) (r ∷ ranks) h k =
+    let a : w ≤ 65535 = omega (arith, h 0) in
+    let b : r ≤ 255 = omega (arith, k 0) in
+    omega (arith, mul-le-mul a b, weighted_few weights ranks (λ i. h (suc i)) (λ i. k (suc i)))

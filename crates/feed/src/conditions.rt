@@ -13,8 +13,7 @@ pub(crate) fn wrong_lengths(tops: &[u8], tags: &[u32], weights: &[u16]) -> bool
 
 /// Whether the first threshold is 0, or the last is above the weighted sum of all tops.
 pub(crate) fn wrong_ends(tops: &[u8], weights: &[u16], thresholds: &[u32]) -> bool
-    requires paired { length weights.now ≡ length tops.now }
-    requires few { length tops.now ≤ 12 }
+    requires few { length weights.now ≤ 12 }
     requires some { 1 ≤ length thresholds.now }
     ensures { result ≡ wrong_ends tops.now weights.now thresholds.now }
 {

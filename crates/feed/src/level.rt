@@ -7,15 +7,7 @@ ghost use Rattle.feed.specs.Feed.{reached};
 pub(crate) fn is_within(tops: &[u8], vector: &[u8]) -> bool
     ensures { result ≡ within tops.now vector.now }
 {
-    if vector.len() != tops.len() {
-        return false;
-    }
-    for i in 0..tops.len() {
-        if vector[i] > tops[i] {
-            return false;
-        }
-    }
-    true
+    vector.len() == tops.len() && vector.iter().zip(tops).all(|(rank, top)| rank <= top)
 }
 
 /// How many thresholds the sum reaches.
@@ -23,11 +15,8 @@ pub(crate) fn thresholds_reached(thresholds: &[u32], sum: u32) -> u8
     requires { length thresholds.now ≤ 7 }
     ensures { result ≡ reached thresholds.now sum }
 {
-    let mut count = 0;
-    for threshold in thresholds {
-        if *threshold <= sum {
-            count += 1;
-        }
-    }
-    count
+    thresholds
+        .iter()
+        .filter(|threshold| **threshold <= sum)
+        .count() as u8
 }

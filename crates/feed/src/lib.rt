@@ -2,8 +2,8 @@
 #![tactic(auto)]
 
 mod conditions;
-mod copying;
 mod feed;
+mod few;
 mod level;
 mod sum;
 

@@ -5,10 +5,11 @@ ghost use Rattle.feed.specs.Feed.{feed_shape, feed_answer, Passes};
 ghost use Rattle.feed.specs.Contents.{shape_of, tags_of, made_shape, made_tags};
 
 use crate::conditions::{wrong_ends, wrong_lengths};
-use crate::copying::begun_with;
 use crate::feed::Feed;
+use crate::few::Few;
 use structure::{Refusal, any_fall, any_outside, any_over, is_outside, vector_count};
 
+// The four slices stay apart: a struct of them would be named only to be passed on.
 impl Feed {
     /// What is wrong with a feed of these contents, the refusal with the smallest number first.
     pub fn check(
@@ -31,9 +32,7 @@ impl Feed {
         if is_outside(thresholds.len() as u64, 7) {
             return Err(Refusal::Best);
         }
-        let Some(_) = vector_count(tops) else {
-            return Err(Refusal::Vectors);
-        };
+        vector_count(tops).ok_or(Refusal::Vectors)?;
         if any_over(weights, 1000) {
             return Err(Refusal::Values);
         }
@@ -63,19 +62,11 @@ impl Feed {
         ensures shape { shape_of result ≡ feed_shape tops.now weights.now thresholds.now }
         ensures tags { tags_of result ≡ tags.now }
     {
-        let components = tops.len();
-        let best = thresholds.len() as u8;
-        let tops = begun_with(0, tops);
-        let tags = begun_with(0, tags);
-        let weights = begun_with(0, weights);
-        let thresholds = begun_with(0, thresholds);
         Feed {
-            components,
-            tops,
-            tags,
-            weights,
-            best,
-            thresholds,
+            tops: Few::new(0, tops),
+            tags: Few::new(0, tags),
+            weights: Few::new(0, weights),
+            thresholds: Few::new(0, thresholds),
         }
     }
 }

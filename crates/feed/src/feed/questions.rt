@@ -1,6 +1,6 @@
 // What a feed answers.
+ghost use Rattle.feed.specs.Few.{held_in};
 ghost use Rattle.feed.specs.Contents.{shape_of, tags_of};
-ghost use Rattle.std.specs.Prelude.{take};
 ghost use Rattle.feed.specs.Passed.{feed_lawful, tags_long};
 
 use crate::feed::Feed;
@@ -14,42 +14,32 @@ impl Structure for Feed {
     ghost tags = { tags_of };
 
     ghost lawful = { λ f.
-        feed_lawful (take f.components f.tops) (take f.components f.tags) (take f.components f.weights)
-        (take f.best f.thresholds) f.passes };
+        feed_lawful (held_in f.tops) (held_in f.tags) (held_in f.weights) (held_in f.thresholds) f.passes };
 
     ghost tagged = { λ f.
-        tags_long (take f.components f.tops) (take f.components f.tags) (take f.components f.weights)
-        (take f.best f.thresholds) f.passes };
+        tags_long (held_in f.tops) (held_in f.tags) (held_in f.weights) (held_in f.thresholds) f.passes };
 
     fn components(&self) -> usize {
-        self.components
+        self.tops.as_slice().len()
     }
 
     fn best(&self) -> u8 {
-        self.best
+        self.thresholds.as_slice().len() as u8
     }
 
     fn top(&self, component: usize) -> Option<u8> {
-        let tops = self.tops();
-        if component < 1 || component > tops.len() {
-            return None;
-        }
-        Some(tops[component - 1])
+        self.tops.as_slice().get(component.checked_sub(1)?).copied()
     }
 
     fn tag(&self, component: usize) -> Option<u32> {
-        let tags = self.tags();
-        if component < 1 || component > tags.len() {
-            return None;
-        }
-        Some(tags[component - 1])
+        self.tags.as_slice().get(component.checked_sub(1)?).copied()
     }
 
     fn level(&self, vector: &[u8]) -> Option<u8> {
-        if !is_within(self.tops(), vector) {
+        if !is_within(self.tops.as_slice(), vector) {
             return None;
         }
-        let sum = weighted_sum(self.weights(), vector);
-        Some(thresholds_reached(self.thresholds(), sum))
+        let sum = weighted_sum(self.weights.as_slice(), vector);
+        Some(thresholds_reached(self.thresholds.as_slice(), sum))
     }
 }
