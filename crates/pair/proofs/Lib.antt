@@ -1,3 +1,2 @@
 -- The lemmas of the crate, each file after those that it uses.
-mod Places
 mod Levels

@@ -4,10 +4,7 @@ ghost use Rattle.structure.specs.Shape.{vector_count};
 ghost use Rattle.structure.specs.Refusals.{answer_by};
 ghost use Rattle.pair.specs.Size.{measured};
 
-use structure::{Refusal, Structure, is_outside};
-
-/// The most vectors that a structure may have.
-const MOST_VECTORS: usize = 65536;
+use structure::{MOST_VECTORS, Refusal, Structure, is_outside};
 
 /// How large a pair is whose parts fit.
 #[derive(Clone, Copy)]

@@ -2,7 +2,7 @@
 ghost use Rattle.pair.specs.Contents.{shape_of, tags_of};
 ghost use Rattle.pair.specs.Lawful.{paired_lawful, paired_tagged};
 
-use crate::measure::{Size, measure};
+use crate::measure::Size;
 use crate::pair::Pair;
 use structure::Structure;
 
@@ -21,10 +21,8 @@ impl<A: Structure, B: Structure> Structure for Pair<A, B> {
         (A.Structure.tagged p.first) (B.Structure.tagged p.second) };
 
     fn components(&self) -> usize {
-        match measure(&self.first, &self.second) {
-            Ok(size) => size.components,
-            Err(_) => self.first.components(),
-        }
+        self.size()
+            .map_or_else(|_| self.first.components(), |size| size.components)
     }
 
     fn best(&self) -> u8 {
@@ -32,27 +30,19 @@ impl<A: Structure, B: Structure> Structure for Pair<A, B> {
     }
 
     fn top(&self, component: usize) -> Option<u8> {
-        match self.first.top(component) {
-            Some(top) => Some(top),
-            None => {
-                let place = self.second_place(component)?;
-                self.second.top(place)
-            }
-        }
+        self.first
+            .top(component)
+            .or_else(|| self.second.top(self.second_place(component)?))
     }
 
     fn tag(&self, component: usize) -> Option<u32> {
-        match self.first.tag(component) {
-            Some(tag) => Some(tag),
-            None => {
-                let place = self.second_place(component)?;
-                self.second.tag(place)
-            }
-        }
+        self.first
+            .tag(component)
+            .or_else(|| self.second.tag(self.second_place(component)?))
     }
 
     fn level(&self, vector: &[u8]) -> Option<u8> {
-        let Ok(Size { front, .. }) = measure(&self.first, &self.second) else {
+        let Ok(Size { front, .. }) = self.size() else {
             return self.first.level(vector);
         };
         if vector.len() < front {
@@ -62,9 +52,7 @@ impl<A: Structure, B: Structure> Structure for Pair<A, B> {
     }
 
     fn vectors(&self) -> usize {
-        match measure(&self.first, &self.second) {
-            Ok(size) => size.vectors,
-            Err(_) => self.first.vectors(),
-        }
+        self.size()
+            .map_or_else(|_| self.first.vectors(), |size| size.vectors)
     }
 }
