@@ -10,7 +10,7 @@ pub(crate) struct Few<T, const N: usize> {
     ghost fits: { len ≤ N },
 }
 
-// A derived `Clone` of values of any type says too little to keep the facts above.
+// No `Clone` is derived beside a ghost field where T may be any type.
 impl<T: Copy, const N: usize> Clone for Few<T, N> {
     ghost is_clone = { λ x y. y ≡ x };
 
@@ -26,7 +26,7 @@ impl<T: Copy, const N: usize> Copy for Few<T, N> {}
 impl<T: Copy, const N: usize> Few<T, N> {
     ghost use Rattle.feed.specs.Few.{held_in};
 
-    /// The first N values of the row.
+    /// The first N values of the row; the places after them hold the rest.
     pub(crate) fn new(rest: T, row: &[T]) -> Few<T, N>
         ensures { held_in result ≡ take N row.now }
     {

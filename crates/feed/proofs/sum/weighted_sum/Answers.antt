@@ -3,7 +3,7 @@ use Rattle.std.proofs.Common.{ℕ, ◌*◌, ◌^◌, ◌∙◌, rules, tests, ar
 use Rattle.std.specs.List.{zip}
 use Rattle.std.proofs.lemmas.Iterator.{YieldsList-from_slice, YieldsList-from_zip, YieldsList-from_map}
 use Rattle.std.proofs.lemmas.Iterator.Consumers.{YieldsList-at, sum_by_from_yields_List, fits_by_from_yields_list}
-use Rattle.feed.specs.Weighted.{weighted_zip, weighted_few}
+use Rattle.feed.proofs.Pairs.{weighted_zip, weighted_few}
 use Rattle.feed.proofs.sum.weighted_sum.Goals as goal
 
 pub sum-requires-clause-fits : goal.sum-requires-clause-fits
