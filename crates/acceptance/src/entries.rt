@@ -11,7 +11,7 @@ const D: u64 = 1_000_000_000;
 fn enters<S: Structure + Drop>(
     rt: &impl Abort,
     study: &mut Study<S>,
-    refusal: u8,
+    refusal: Option<u8>,
     component: usize,
     up: &[u64],
     down: &[u64],
@@ -22,26 +22,47 @@ fn enters<S: Structure + Drop>(
 #[test]
 fn refuses_components_and_lengths(rt: HostRuntime) -> Result<(), Fail> {
     let mut study = Study::open(rt.alloc(), Table::new(&[2], 2, &[1], &[0, 1, 2]))?;
-    enters(&rt, &mut study, 20, 0, &[0, 0], &[0, 0]);
-    enters(&rt, &mut study, 20, 2, &[], &[D + 1]);
-    enters(&rt, &mut study, 0, 1, &[0, 0], &[0, 0]);
-    enters(&rt, &mut study, 21, 1, &[0], &[0, 0]);
-    enters(&rt, &mut study, 21, 1, &[0, 0], &[0, 0, D + 1]);
+    enters(&rt, &mut study, Some(20), 0, &[0, 0], &[0, 0]);
+    enters(&rt, &mut study, Some(20), 2, &[], &[D + 1]);
+    enters(&rt, &mut study, None, 1, &[0, 0], &[0, 0]);
+    enters(&rt, &mut study, Some(21), 1, &[0], &[0, 0]);
+    enters(&rt, &mut study, Some(21), 1, &[0, 0], &[0, 0, D + 1]);
     Ok(())
 }
 
 #[test]
 fn refuses_shares(rt: HostRuntime) -> Result<(), Fail> {
     let mut study = Study::open(rt.alloc(), Table::new(&[2], 2, &[1], &[0, 1, 2]))?;
-    enters(&rt, &mut study, 0, 1, &[D, 0], &[0, D]);
-    enters(&rt, &mut study, 22, 1, &[D + 1, 0], &[0, 0]);
-    enters(&rt, &mut study, 22, 1, &[0, 1], &[0, D + 1]);
-    enters(&rt, &mut study, 0, 1, &[5, 5], &[7, 7]);
-    enters(&rt, &mut study, 23, 1, &[5, 6], &[0, D]);
-    enters(&rt, &mut study, 23, 1, &[5, 5], &[7, 6]);
-    enters(&rt, &mut study, 0, 1, &[600_000_000, 0], &[400_000_000, D]);
-    enters(&rt, &mut study, 24, 1, &[600_000_000, 0], &[400_000_001, D]);
-    enters(&rt, &mut study, 24, 1, &[600_000_000, 1], &[400_000_000, D]);
+    enters(&rt, &mut study, None, 1, &[D, 0], &[0, D]);
+    enters(&rt, &mut study, Some(22), 1, &[D + 1, 0], &[0, 0]);
+    enters(&rt, &mut study, Some(22), 1, &[0, 1], &[0, D + 1]);
+    enters(&rt, &mut study, None, 1, &[5, 5], &[7, 7]);
+    enters(&rt, &mut study, Some(23), 1, &[5, 6], &[0, D]);
+    enters(&rt, &mut study, Some(23), 1, &[5, 5], &[7, 6]);
+    enters(
+        &rt,
+        &mut study,
+        None,
+        1,
+        &[600_000_000, 0],
+        &[400_000_000, D],
+    );
+    enters(
+        &rt,
+        &mut study,
+        Some(24),
+        1,
+        &[600_000_000, 0],
+        &[400_000_001, D],
+    );
+    enters(
+        &rt,
+        &mut study,
+        Some(24),
+        1,
+        &[600_000_000, 1],
+        &[400_000_000, D],
+    );
     Ok(())
 }
 
@@ -50,7 +71,7 @@ fn a_refusal_leaves_the_rows(rt: HostRuntime) -> Result<(), Fail> {
     let mut study = Study::open(rt.alloc(), Table::new(&[1, 1], 1, &[1, 2], &[0, 1, 1, 1]))?;
     enter_usual(&rt, &mut study, 2);
     steps(&rt, &mut study, 9, 4, Word::Finished);
-    enters(&rt, &mut study, 24, 1, &[D], &[1]);
+    enters(&rt, &mut study, Some(24), 1, &[D], &[1]);
     gives(&rt, &study, 1, 990_000_000, 990_000_000, 2, 1)
 }
 

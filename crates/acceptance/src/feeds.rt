@@ -8,10 +8,10 @@ use study::{Study, Word};
 
 const D: u64 = 1_000_000_000;
 
-// Checks the number of the refusal that a feed meets, 0 where it is accepted.
+// Checks the number of the refusal that a feed meets, none where it is accepted.
 fn meets(
     rt: &impl Abort,
-    refusal: u8,
+    refusal: Option<u8>,
     tops: &[u8],
     tags: &[u32],
     weights: &[u16],
@@ -25,48 +25,51 @@ fn meets(
 
 #[test]
 fn refuses_components_and_tops(rt: HostRuntime) {
-    meets(&rt, 10, &[], &[], &[], &[1]);
-    meets(&rt, 0, &[1; 12], &[0; 12], &[1; 12], &[1]);
-    meets(&rt, 10, &[1; 13], &[0; 13], &[1; 13], &[1]);
-    meets(&rt, 11, &[1], &[], &[1], &[1]);
-    meets(&rt, 11, &[1], &[0; 2], &[1], &[1]);
-    meets(&rt, 11, &[1], &[0], &[], &[1]);
-    meets(&rt, 11, &[1], &[0], &[1; 2], &[1]);
-    meets(&rt, 12, &[0], &[0], &[1], &[1]);
-    meets(&rt, 0, &[7], &[0], &[1], &[1]);
-    meets(&rt, 12, &[8], &[0], &[1], &[1]);
-    meets(&rt, 13, &[1], &[0], &[1], &[]);
-    meets(&rt, 0, &[7], &[0], &[1], &[1, 2, 3, 4, 5, 6, 7]);
-    meets(&rt, 13, &[7], &[0], &[1], &[1; 8]);
+    meets(&rt, Some(10), &[], &[], &[], &[1]);
+    meets(&rt, None, &[1; 12], &[0; 12], &[1; 12], &[1]);
+    meets(&rt, Some(10), &[1; 13], &[0; 13], &[1; 13], &[1]);
+    meets(&rt, Some(11), &[1], &[], &[1], &[1]);
+    meets(&rt, Some(11), &[1], &[0; 2], &[1], &[1]);
+    meets(&rt, Some(11), &[1], &[0], &[], &[1]);
+    meets(&rt, Some(11), &[1], &[0], &[1; 2], &[1]);
+    meets(&rt, Some(12), &[0], &[0], &[1], &[1]);
+    meets(&rt, None, &[7], &[0], &[1], &[1]);
+    meets(&rt, Some(12), &[8], &[0], &[1], &[1]);
+    meets(&rt, Some(13), &[1], &[0], &[1], &[]);
+    meets(&rt, None, &[7], &[0], &[1], &[1, 2, 3, 4, 5, 6, 7]);
+    meets(&rt, Some(13), &[7], &[0], &[1], &[1; 8]);
 }
 
 #[test]
 fn refuses_weights_and_thresholds(rt: HostRuntime) {
-    meets(&rt, 14, &[7, 7, 7, 7, 7, 2], &[0; 6], &[1; 6], &[1]);
-    meets(&rt, 0, &[7, 7, 7, 7, 7, 1], &[0; 6], &[1; 6], &[1]);
-    meets(&rt, 16, &[1, 1], &[0; 2], &[0, 1_001], &[1]);
-    meets(&rt, 0, &[1, 1], &[0; 2], &[0, 1_000], &[1]);
-    meets(&rt, 17, &[1, 1], &[0; 2], &[3, 2], &[0, 5]);
-    meets(&rt, 0, &[1, 1], &[0; 2], &[3, 2], &[1, 5]);
-    meets(&rt, 17, &[1, 1], &[0; 2], &[3, 2], &[1, 6]);
-    meets(&rt, 18, &[1, 1], &[0; 2], &[3, 2], &[3, 2]);
-    meets(&rt, 0, &[1, 1], &[0; 2], &[3, 2], &[2, 2]);
+    meets(&rt, Some(14), &[7, 7, 7, 7, 7, 2], &[0; 6], &[1; 6], &[1]);
+    meets(&rt, None, &[7, 7, 7, 7, 7, 1], &[0; 6], &[1; 6], &[1]);
+    meets(&rt, Some(16), &[1, 1], &[0; 2], &[0, 1_001], &[1]);
+    meets(&rt, None, &[1, 1], &[0; 2], &[0, 1_000], &[1]);
+    meets(&rt, Some(17), &[1, 1], &[0; 2], &[3, 2], &[0, 5]);
+    meets(&rt, None, &[1, 1], &[0; 2], &[3, 2], &[1, 5]);
+    meets(&rt, Some(17), &[1, 1], &[0; 2], &[3, 2], &[1, 6]);
+    meets(&rt, Some(18), &[1, 1], &[0; 2], &[3, 2], &[3, 2]);
+    meets(&rt, None, &[1, 1], &[0; 2], &[3, 2], &[2, 2]);
 }
 
 #[test]
 fn refuses_the_smallest_first(rt: HostRuntime) {
-    meets(&rt, 10, &[], &[0], &[], &[]);
-    meets(&rt, 11, &[0], &[], &[1], &[]);
-    meets(&rt, 12, &[0], &[0], &[1], &[]);
-    meets(&rt, 13, &[7; 6], &[0; 6], &[1; 6], &[]);
-    meets(&rt, 14, &[7; 6], &[0; 6], &[1_001; 6], &[0]);
-    meets(&rt, 16, &[1], &[0], &[1_001], &[0]);
-    meets(&rt, 17, &[1], &[0], &[5], &[9, 8]);
+    meets(&rt, Some(10), &[], &[0], &[], &[]);
+    meets(&rt, Some(11), &[0], &[], &[1], &[]);
+    meets(&rt, Some(12), &[0], &[0], &[1], &[]);
+    meets(&rt, Some(13), &[7; 6], &[0; 6], &[1; 6], &[]);
+    meets(&rt, Some(14), &[7; 6], &[0; 6], &[1_001; 6], &[0]);
+    meets(&rt, Some(16), &[1], &[0], &[1_001], &[0]);
+    meets(&rt, Some(17), &[1], &[0], &[5], &[9, 8]);
 }
 
 #[test]
 fn answers_from_its_weights(rt: HostRuntime) {
-    assert_eq!(rt; number(Feed::check(&[1, 1], &[4, 5], &[3, 2], &[2, 5])), 0);
+    assert_eq!(rt;
+        number(Feed::check(&[1, 1], &[4, 5], &[3, 2], &[2, 5])),
+        None
+    );
     let feed = Feed::new(&[1, 1], &[4, 5], &[3, 2], &[2, 5]);
     assert_eq!(rt; feed.components(), 2);
     assert_eq!(rt; feed.best(), 2);

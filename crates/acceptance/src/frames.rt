@@ -32,8 +32,8 @@ fn three_in_series(rt: HostRuntime) -> Result<(), Fail> {
         rt.alloc(),
         Table::new(&[1; 3], 1, &[1, 2, 3], &[0, 0, 0, 0, 0, 0, 0, 1]),
     )?;
-    for i in 0..3usize {
-        assert_eq!(rt; number(study.enter(i + 1, &[333_333_333], &[0])), 0);
+    for component in 1..=3usize {
+        assert_eq!(rt; number(study.enter(component, &[333_333_333], &[0])), None);
     }
     steps(&rt, &mut study, 8, 8, Word::Finished);
     gives(&rt, &study, 1, 37_037_036, 1_000_000_000, 1, 3)
@@ -44,7 +44,7 @@ fn three_ranks(rt: HostRuntime) -> Result<(), Fail> {
     let mut study = Study::open(rt.alloc(), Table::new(&[2], 2, &[1], &[0, 1, 2]))?;
     assert_eq!(rt;
         number(study.enter(1, &[900_000_000, 500_000_000], &[50_000_000, 300_000_000])),
-        0
+        None
     );
     steps(&rt, &mut study, 3, 3, Word::Finished);
     gives(&rt, &study, 1, 900_000_000, 950_000_000, 1, 1)?;

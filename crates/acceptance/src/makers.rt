@@ -25,7 +25,7 @@ fn a_radio_is_carried(rt: HostRuntime) -> Result<(), Fail> {
     gives(&rt, &radio, 1, 997_002_999, D, 3, 3)?;
     gives(&rt, &radio, 2, 990_000_000, D, 2, 1)?;
     let mut study = Study::open(rt.alloc(), Table::new(&[2], 2, &[6], &[0, 1, 2]))?;
-    assert_eq!(rt; number(study.carry(1, &radio)), 0);
+    assert_eq!(rt; number(study.carry(1, &radio)), None);
     steps(&rt, &mut study, 3, 3, Word::Finished);
     gives(&rt, &study, 1, 997_002_999, D, 1, 1)?;
     gives(&rt, &study, 2, 990_000_000, D, 1, 1)

@@ -26,8 +26,8 @@ fn one(tags: &[u32]) -> Table<'_> {
     Table::new(&[1], 1, tags, &[0, 1])
 }
 
-// Checks the number of the refusal that a pair meets, 0 where it is accepted.
-fn meets<A: Structure, B: Structure>(rt: &impl Abort, refusal: u8, first: &A, second: &B) {
+// Checks the number of the refusal that a pair meets, none where it is accepted.
+fn meets<A: Structure, B: Structure>(rt: &impl Abort, refusal: Option<u8>, first: &A, second: &B) {
     assert_eq!(rt; number(Pair::check(first, second)), refusal);
 }
 
@@ -48,9 +48,15 @@ fn finished<S: Structure + Drop>(
     let mut study = Study::open(heap, structure)?;
     let up = [900_000_000, 500_000_000];
     let down = [50_000_000, 300_000_000];
-    assert_eq!(rt; number(study.enter(1, &up, &down)), 0);
-    assert_eq!(rt; number(study.enter(2, &[900_000_000], &[100_000_000])), 0);
-    assert_eq!(rt; number(study.enter(3, &[900_000_000], &[100_000_000])), 0);
+    assert_eq!(rt; number(study.enter(1, &up, &down)), None);
+    assert_eq!(rt;
+        number(study.enter(2, &[900_000_000], &[100_000_000])),
+        None
+    );
+    assert_eq!(rt;
+        number(study.enter(3, &[900_000_000], &[100_000_000])),
+        None
+    );
     steps(rt, &mut study, 12, 12, Word::Finished);
     Ok(study)
 }
@@ -85,21 +91,31 @@ fn levels_in_series_and_in_parallel(rt: HostRuntime) {
 #[test]
 fn refuses_parts(rt: HostRuntime) {
     let six = Feed::new(&[1; 6], &[0; 6], &[1; 6], &[1]);
-    meets(&rt, 0, &six, &six);
-    meets(&rt, 10, &six, &Feed::new(&[1; 7], &[0; 7], &[1; 7], &[1]));
+    meets(&rt, None, &six, &six);
     meets(
         &rt,
-        10,
+        Some(10),
+        &six,
+        &Feed::new(&[1; 7], &[0; 7], &[1; 7], &[1]),
+    );
+    meets(
+        &rt,
+        Some(10),
         &six,
         &Feed::new(&[1; 7], &[0; 7], &[1; 7], &[1, 2]),
     );
     let three_ranks = Table::new(&[2], 2, &[0], &[0, 1, 2]);
-    meets(&rt, 13, &six, &three_ranks);
+    meets(&rt, Some(13), &six, &three_ranks);
     let large = Feed::new(&[7; 5], &[0; 5], &[1; 5], &[1]);
-    meets(&rt, 0, &large, &one(&[0]));
-    meets(&rt, 14, &large, &Feed::new(&[2], &[0], &[1], &[1]));
-    meets(&rt, 13, &large, &three_ranks);
-    meets(&rt, 10, &large, &Feed::new(&[1; 8], &[0; 8], &[1; 8], &[1]));
+    meets(&rt, None, &large, &one(&[0]));
+    meets(&rt, Some(14), &large, &Feed::new(&[2], &[0], &[1], &[1]));
+    meets(&rt, Some(13), &large, &three_ranks);
+    meets(
+        &rt,
+        Some(10),
+        &large,
+        &Feed::new(&[1; 8], &[0; 8], &[1; 8], &[1]),
+    );
 }
 
 #[test]

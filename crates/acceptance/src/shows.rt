@@ -36,10 +36,8 @@ fn refuses<S: Structure + Drop>(
     number: usize,
     row: &mut [u8],
 ) {
-    match study.show(side, number, row) {
-        Ok(_) => assert_eq!(rt; 0, refusal),
-        Err(met) => assert_eq!(rt; met.number(), refusal),
-    }
+    let met = study.show(side, number, row).err();
+    assert_eq!(rt; met.map(|met| met.number()), Some(refusal));
     for rank in row.iter() {
         assert_eq!(rt; *rank, 9);
     }

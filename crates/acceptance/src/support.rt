@@ -9,12 +9,9 @@ use table::Table;
 
 pub(crate) const FOUR: [u8; 16] = [0, 0, 0, 0, 0, 1, 1, 2, 0, 1, 1, 2, 0, 2, 2, 3];
 
-/// The number of a refusal, 0 where there is none.
-pub(crate) fn number(res: Result<(), Refusal>) -> u8 {
-    match res {
-        Ok(()) => 0,
-        Err(refusal) => refusal.number(),
-    }
+/// The number of the refusal that a call meets; none where it is accepted.
+pub(crate) fn number(res: Result<(), Refusal>) -> Option<u8> {
+    res.err().map(|refusal| refusal.number())
 }
 
 /// Enters this up and this down share for each of the first n components, of two ranks each.
@@ -25,8 +22,8 @@ pub(crate) fn enter_all<S: Structure + Drop>(
     up: u64,
     down: u64,
 ) {
-    for i in 0..n {
-        assert_eq!(rt; number(study.enter(i + 1, &[up], &[down])), 0);
+    for component in 1..=n {
+        assert_eq!(rt; number(study.enter(component, &[up], &[down])), None);
     }
 }
 
@@ -58,18 +55,11 @@ pub(crate) fn gives<S: Structure + Drop>(
     paths: usize,
     cuts: usize,
 ) -> Result<(), Fail> {
-    match study.figures(level) {
-        Ok(figures) => {
-            let (l, h, p, c) = figures;
-            assert_eq!(rt; l.billionths(), low);
-            assert_eq!(rt; h.billionths(), high);
-            assert_eq!(rt; p, paths);
-            assert_eq!(rt; c, cuts);
-            Ok(())
-        }
-        Err(refusal) => {
-            assert_eq!(rt; refusal.number(), 0);
-            Ok(())
-        },
-    }
+    let figures = study.figures(level)?;
+    let (l, h, p, c) = figures;
+    assert_eq!(rt; l.billionths(), low);
+    assert_eq!(rt; h.billionths(), high);
+    assert_eq!(rt; p, paths);
+    assert_eq!(rt; c, cuts);
+    Ok(())
 }

@@ -4,37 +4,37 @@ use std::process::Abort;
 use structure::Structure;
 use table::Table;
 
-// Checks the number of the refusal that a table meets, 0 where it is accepted.
-fn meets(rt: &impl Abort, refusal: u8, tops: &[u8], best: u8, tags: &[u32], levels: &[u8]) {
+// Checks the number of the refusal that a table meets, none where it is accepted.
+fn meets(rt: &impl Abort, refusal: Option<u8>, tops: &[u8], best: u8, tags: &[u32], levels: &[u8]) {
     assert_eq!(rt; number(Table::check(tops, best, tags, levels)), refusal);
 }
 
 #[test]
 fn refuses_components_and_tops(rt: HostRuntime) {
-    meets(&rt, 10, &[], 1, &[], &[]);
-    meets(&rt, 15, &[1; 12], 1, &[0; 12], &[]);
-    meets(&rt, 10, &[1; 13], 1, &[0; 13], &[]);
-    meets(&rt, 11, &[1], 1, &[], &[0, 1]);
-    meets(&rt, 11, &[1], 1, &[0, 0], &[0, 1]);
-    meets(&rt, 12, &[0], 1, &[0], &[0]);
-    meets(&rt, 0, &[7], 7, &[0], &[0, 1, 2, 3, 4, 5, 6, 7]);
-    meets(&rt, 12, &[8], 7, &[0], &[0]);
-    meets(&rt, 13, &[1], 0, &[0], &[0, 0]);
-    meets(&rt, 13, &[1], 8, &[0], &[0, 8]);
+    meets(&rt, Some(10), &[], 1, &[], &[]);
+    meets(&rt, Some(15), &[1; 12], 1, &[0; 12], &[]);
+    meets(&rt, Some(10), &[1; 13], 1, &[0; 13], &[]);
+    meets(&rt, Some(11), &[1], 1, &[], &[0, 1]);
+    meets(&rt, Some(11), &[1], 1, &[0, 0], &[0, 1]);
+    meets(&rt, Some(12), &[0], 1, &[0], &[0]);
+    meets(&rt, None, &[7], 7, &[0], &[0, 1, 2, 3, 4, 5, 6, 7]);
+    meets(&rt, Some(12), &[8], 7, &[0], &[0]);
+    meets(&rt, Some(13), &[1], 0, &[0], &[0, 0]);
+    meets(&rt, Some(13), &[1], 8, &[0], &[0, 8]);
 }
 
 #[test]
 fn refuses_levels(rt: HostRuntime) {
-    meets(&rt, 15, &[7, 7, 7, 7, 7, 1], 1, &[0; 6], &[]);
-    meets(&rt, 14, &[7, 7, 7, 7, 7, 2], 1, &[0; 6], &[]);
-    meets(&rt, 15, &[1], 1, &[0], &[0]);
-    meets(&rt, 0, &[1], 1, &[0], &[0, 1]);
-    meets(&rt, 15, &[1], 1, &[0], &[0, 1, 1]);
-    meets(&rt, 16, &[1], 1, &[0], &[0, 2]);
-    meets(&rt, 17, &[1], 1, &[0], &[1, 1]);
-    meets(&rt, 17, &[1], 1, &[0], &[0, 0]);
-    meets(&rt, 18, &[3], 2, &[0], &[0, 2, 1, 2]);
-    meets(&rt, 0, &[3], 2, &[0], &[0, 1, 1, 2]);
+    meets(&rt, Some(15), &[7, 7, 7, 7, 7, 1], 1, &[0; 6], &[]);
+    meets(&rt, Some(14), &[7, 7, 7, 7, 7, 2], 1, &[0; 6], &[]);
+    meets(&rt, Some(15), &[1], 1, &[0], &[0]);
+    meets(&rt, None, &[1], 1, &[0], &[0, 1]);
+    meets(&rt, Some(15), &[1], 1, &[0], &[0, 1, 1]);
+    meets(&rt, Some(16), &[1], 1, &[0], &[0, 2]);
+    meets(&rt, Some(17), &[1], 1, &[0], &[1, 1]);
+    meets(&rt, Some(17), &[1], 1, &[0], &[0, 0]);
+    meets(&rt, Some(18), &[3], 2, &[0], &[0, 2, 1, 2]);
+    meets(&rt, None, &[3], 2, &[0], &[0, 1, 1, 2]);
 }
 
 #[test]

@@ -27,11 +27,11 @@ fn changed(heap: Global, place: usize, other: &str) -> Result<Vec<u8>, AllocErro
     Ok(text)
 }
 
-// The number and the line of the fault, zeros where a case was read.
-fn outcome(heap: Global, text: &[u8]) -> Result<(u8, usize), Fail> {
+// The number and the line of the fault; none where a case was read.
+fn outcome(heap: Global, text: &[u8]) -> Result<Option<(u8, usize)>, Fail> {
     match read(heap, text) {
-        Ok(_) => Ok((0, 0)),
-        Err(ReadError::Fault(fault)) => Ok((fault.refusal.number(), fault.line)),
+        Ok(_) => Ok(None),
+        Err(ReadError::Fault(fault)) => Ok(Some((fault.refusal.number(), fault.line))),
         Err(ReadError::Memory) => Err(Fail::new("no memory")),
     }
 }
@@ -105,7 +105,12 @@ fn one_line_changed(rt: HostRuntime) -> Result<(), Fail> {
     ];
     for (place, other, number, line) in table {
         let text = changed(rt.alloc(), place, other)?;
-        assert_eq!(rt; outcome(rt.alloc(), &text)?, (number, line), "{}", other);
+        assert_eq!(rt;
+            outcome(rt.alloc(), &text)?,
+            Some((number, line)),
+            "{}",
+            other
+        );
     }
     Ok(())
 }
@@ -113,44 +118,34 @@ fn one_line_changed(rt: HostRuntime) -> Result<(), Fail> {
 #[test]
 fn whole_texts(rt: HostRuntime) -> Result<(), Fail> {
     let table = [
-        ("", 40, 1),
-        ("\0\u{7f}\n", 40, 1),
-        ("components=2\r\nlevels=1\r\n", 41, 1),
-        ("components=6\nlevels=1\ntops=7,7,7,7,7,1\n", 40, 4),
-        ("components=6\nlevels=1\ntops=7,7,7,7,7,2\n", 14, 3),
+        ("", Some((40, 1))),
+        ("\0\u{7f}\n", Some((40, 1))),
+        ("components=2\r\nlevels=1\r\n", Some((41, 1))),
+        ("components=6\nlevels=1\ntops=7,7,7,7,7,1\n", Some((40, 4))),
+        ("components=6\nlevels=1\ntops=7,7,7,7,7,2\n", Some((14, 3))),
         (
             "components=2\nlevels=1\ntops=2,1\ntags=1,2\ntable=011011\n",
-            18,
-            5,
+            Some((18, 5)),
         ),
         (
             "components=1\nlevels=2\ntops=2\ntags=1\ntable=012\nup=5,6\ndown=0,0\n",
-            23,
-            7,
+            Some((23, 7)),
         ),
         (
             "components=1\nlevels=2\ntops=2\ntags=1\ntable=012\nup=6,5\ndown=3,2\n",
-            23,
-            7,
+            Some((23, 7)),
         ),
         (
             "components=1\nlevels=2\ntops=2\ntags=1\ntable=012\nup=6,5\ndown=2,3\n",
-            0,
-            0,
+            None,
         ),
         (
             "components=1\nlevels=2\ntops=2\ntags=1\ntable=012\nup=6,5\ndown=2,3",
-            40,
-            7,
+            Some((40, 7)),
         ),
     ];
-    for (text, number, line) in table {
-        assert_eq!(rt;
-            outcome(rt.alloc(), text.as_bytes())?,
-            (number, line),
-            "{}",
-            text
-        );
+    for (text, fault) in table {
+        assert_eq!(rt; outcome(rt.alloc(), text.as_bytes())?, fault, "{}", text);
     }
     Ok(())
 }
@@ -158,12 +153,18 @@ fn whole_texts(rt: HostRuntime) -> Result<(), Fail> {
 #[test]
 fn long_texts(rt: HostRuntime) -> Result<(), Fail> {
     let heap = rt.alloc();
-    assert_eq!(rt; outcome(heap, &vec![in heap; b','; 65_537]?)?, (39, 0));
-    assert_eq!(rt; outcome(heap, &vec![in heap; b','; 65_536]?)?, (40, 1));
+    assert_eq!(rt;
+        outcome(heap, &vec![in heap; b','; 65_537]?)?,
+        Some((39, 0))
+    );
+    assert_eq!(rt;
+        outcome(heap, &vec![in heap; b','; 65_536]?)?,
+        Some((40, 1))
+    );
     let mut commas = vec![in heap; b','; 60_000]?;
     commas.push(b'\n')?;
     let mut text = Vec::from_slice(heap, b"components=1\nlevels=1\ntops=")?;
     text.extend_from_slice(&commas)?;
-    assert_eq!(rt; outcome(heap, &text)?, (41, 3));
+    assert_eq!(rt; outcome(heap, &text)?, Some((41, 3)));
     Ok(())
 }

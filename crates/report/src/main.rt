@@ -20,7 +20,8 @@ fn read_part<R: Read>(from: &mut R, part: &mut [u8], text: &mut Vec<u8>) -> io::
     Ok(count)
 }
 
-// The bytes of an input, or as many as are enough. A turn that brings none is the last, so there are at most `ENOUGH` turns.
+// The bytes of an input, or as many as are enough. A turn that brings none is the last, so there are at most `ENOUGH` turns. The loop stands here
+// since `read_to_end` promises nothing of how much it adds from a reader that does not know its length, and reads on where it is interrupted.
 fn input<R: Read>(heap: Global, from: &mut R) -> io::Result<Vec<u8>>
     ensures { IfOk result (λ text. vec_len text ≤ 65537) }
 {

@@ -12,12 +12,9 @@ ghost use Rattle.summary.specs.Reports.{Reported};
 use crate::lines::{level_lines, search_line};
 use casetext::{Case, Shares};
 use std::alloc::{AllocError, Global};
-use structure::Structure;
+use structure::{MOST_VECTORS, Structure};
 use study::{Study, Word};
 use table::Table;
-
-// As many vectors as a structure can have.
-const MOST_VECTORS: usize = 65_536;
 
 // Enters the shares of each component.
 fn enter_rows<S: Structure + Drop>(study: &mut Study<S>, rows: &[Shares])
