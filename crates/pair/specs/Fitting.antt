@@ -56,6 +56,6 @@ module _ (a b : Shape) (s : Size) (e : given s ≡ measured a b) where
   pub fit_given : fit a b ≡ true
   fit_given = sym (ap accepted measured_given.1)
 
-  -- the first's part of it
+  -- its front has the components of the first
   pub front_given : s.front ≡ length a.tops
   front_given = ap (λ z. z.front) measured_given.0
