@@ -5,5 +5,5 @@ mod share;
 mod theory;
 mod width;
 
-pub use share::Share;
+pub use share::{Share, WHOLE};
 pub use theory::rounding_stands;

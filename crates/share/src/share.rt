@@ -1,21 +1,32 @@
 // A share, and the three operations of which every figure is made.
-ghost use Rattle.std.specs.Prelude.{◌≡◌, ◌≤◌, if◌then◌else◌, Some, None, nat_le};
-ghost use Rattle.std.specs.Option.{option_map};
+ghost use Rattle.std.specs.Prelude.{◌≡◌, ℕ, ◌≤◌, if◌then◌else◌, Some, None, nat_le};
 ghost use Rattle.share.specs.Shares.{D, rounded};
 
-const WHOLE: u64 = 1_000_000_000;
+use std::marker::Model;
+
+/// The whole, in billionths.
+pub const WHOLE: u64 = 1_000_000_000;
 
 /// A share of the whole, in billionths.
-#[derive(Clone, Copy, Debug)]
+#[derive(Clone, Copy, Debug, PartialEq, Eq, PartialOrd, Ord)]
 pub struct Share {
     value: u64,
-    ghost fits: { value ≤ 1_000_000_000 },
+}
+
+impl Model for Share {
+    ghost Value = { ℕ };
+
+    ghost view = { λ s. s.value };
+
+    ghost invariant = { λ s. s.value ≤ D };
+
+    ghost inverse = { λ n. record { value = n } };
 }
 
 impl Share {
     /// The share of this many billionths; none where that is over the whole.
     pub fn new(billionths: u64) -> Option<Share>
-        ensures { option_map (λ s. s.value) result ≡ (if nat_le billionths D then Some billionths else None) }
+        ensures { result ≡ (if nat_le billionths D then Some billionths else None) }
     {
         if billionths > WHOLE {
             return None;
@@ -25,29 +36,28 @@ impl Share {
 
     /// No share.
     pub fn none() -> Share
-        ensures { result.value ≡ 0 }
+        ensures { result ≡ 0 }
     {
         Share { value: 0 }
     }
 
     /// The whole.
     pub fn whole() -> Share
-        ensures { result.value ≡ D }
+        ensures { result ≡ D }
     {
         Share { value: WHOLE }
     }
 
     /// The share in billionths.
     pub fn billionths(self) -> u64
-        ensures { result ≡ self.value }
+        ensures { result ≡ self }
     {
-        let Share { value } = self;
-        value
+        self.value
     }
 
     /// The product of two shares, rounded down.
     pub fn times_down(self, other: Share) -> Share
-        ensures { result.value ≡ rounded.times_down self.value other.value }
+        ensures { result ≡ rounded.times_down self other }
     {
         Share {
             value: self.value * other.value / WHOLE,
@@ -56,7 +66,7 @@ impl Share {
 
     /// The product of two shares, rounded up.
     pub fn times_up(self, other: Share) -> Share
-        ensures { result.value ≡ rounded.times_up self.value other.value }
+        ensures { result ≡ rounded.times_up self other }
     {
         Share {
             value: (self.value * other.value + (WHOLE - 1)) / WHOLE,
@@ -65,7 +75,7 @@ impl Share {
 
     /// The rest to the whole.
     pub fn rest(self) -> Share
-        ensures { result.value ≡ rounded.rest self.value }
+        ensures { result ≡ rounded.rest self }
     {
         Share {
             value: WHOLE - self.value,
@@ -74,12 +84,8 @@ impl Share {
 
     /// The larger of two shares.
     pub fn larger(self, other: Share) -> Share
-        ensures { result.value ≡ rounded.larger self.value other.value }
+        ensures { result ≡ rounded.larger self other }
     {
-        if self.value < other.value {
-            other
-        } else {
-            self
-        }
+        self.max(other)
     }
 }

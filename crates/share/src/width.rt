@@ -3,7 +3,7 @@ use crate::share::Share;
 use number::Number;
 
 impl Number for Share {
-    ghost value = { λ s. s.value };
+    ghost value = { λ s. s };
 
     fn wide(&self) -> u64 {
         self.billionths()
