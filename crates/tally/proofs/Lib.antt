@@ -1,5 +1,4 @@
 -- The lemmas of the crate, each file after those that it uses.
-pub mod Excess
-pub mod Readings
-pub mod Factors
+pub mod Made
+pub mod Pairs
 pub mod Tallies

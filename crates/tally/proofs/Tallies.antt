@@ -1,8 +1,8 @@
 -- The records of a level one more at a time, and what a list of entries gives with one more. Assumes nothing.
-use Rattle.std.proofs.Common.{◌≡◌, ℕ, ◌+◌, ◌<◌, max, Bool, true, false, cond, List, [], ◌∷◌, ◌++◌, map, length, get_or, take, fold, sym, ap, ◌∙◌, ap₂, arith}
+use Rattle.std.proofs.Common.{◌≡◌, ℕ, ◌+◌, ◌<◌, max, true, false, cond, List, [], ◌∷◌, ◌++◌, map, length, get_or, take, fold, Some, None, Option, sym, refl, ap, ◌∙◌, ap₂, arith}
 use Rattle.std.proofs.lemmas.List.{map_push, map_more, length-map, length_push, append-nil}
 use Rattle.std.proofs.lemmas.List.Elements.{filter-append}
-use Rattle.std.proofs.lemmas.Bool.{cond-true, cond-false}
+use Rattle.std.specs.Option.{option_map}
 use Rattle.std.proofs.lemmas.List.Sums.{fold_push}
 use Rattle.share.specs.Shares.{D, rounded, share_of_all, share_of_any}
 use Rattle.structure.specs.Minimal.{Entry, covers}
@@ -11,18 +11,7 @@ use Rattle.tally.specs.Model.{rows_of, entry_of, reading_of, shares_by, entries_
 use Rattle.tally.specs.declared.row.Row.{Row}
 use Rattle.tally.specs.declared.record.Record.{Record}
 use Rattle.tally.specs.declared.reading.Reading.{Reading}
-use Rattle.tally.proofs.Factors.{shares_at_front}
-
--- ## A number that counts, or else the whole
-
-pub where_counts : (b : Bool) (x a : ℕ) → b ≡ true → x ≡ a → x ≡ cond b a D
-where_counts b x a t e = e ∙ sym (cond-true b a D t)
-
-pub counts_where : (b : Bool) (x a : ℕ) → b ≡ true → x ≡ cond b a D → x ≡ a
-counts_where b x a t e = e ∙ cond-true b a D t
-
-pub counts_not : (b : Bool) (x a a' : ℕ) → b ≡ false → x ≡ cond b a D → x ≡ cond b a' D
-counts_not b x a a' f e = e ∙ cond-false b a D f ∙ sym (cond-false b a' D f)
+use Rattle.tally.proofs.Pairs.{shares_at_front}
 
 -- ## One entry more
 
@@ -81,3 +70,9 @@ module _ (level : ℕ) (rows : List Row) (records : List Record) (i : ℕ) (d : 
       all_more e f =
           ap₂ rounded.times_down e (f ∙ sym (ap (share_of_any rounded) (shares_of_entry reading rows (get_or records i d)))) ∙
           sym (ap (all_of rounded shares) entries_more ∙ all_of_push shares so_far here)
+
+-- ## A share that is asked for, or not
+
+pub asked : (by : Option Reading) (f g : Reading → ℕ) → ((r : Reading) → by ≡ Some r → f r ≡ g r) → option_map f by ≡ option_map g by
+asked None f g h = refl
+asked (Some r) f g h = ap Some (h r refl)

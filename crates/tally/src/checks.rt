@@ -1,19 +1,18 @@
 // When the two rows of a component are refused.
-ghost use Rattle.std.specs.Prelude.{◌≡◌, ◌+◌, nat_lt};
+ghost use Rattle.std.specs.Prelude.{◌≡◌};
 ghost use Rattle.share.specs.Shares.{D};
 ghost use Rattle.structure.specs.Conditions.{any_sum_over};
 ghost use Rattle.structure.specs.Refusals.{verdict, judged};
 ghost use Rattle.promise.specs.Calls.{row_tests};
 
+use share::WHOLE;
 use structure::{Refusal, any_fall, any_over, any_rise};
-
-const WHOLE: u64 = 1_000_000_000;
 
 /// Whether these can be the rows of a component with this top, or the first reason why not.
 pub fn check_rows(top: u8, up: &[u64], down: &[u64]) -> Result<(), Refusal>
     ensures { verdict result ≡ judged (row_tests top (record { up = up.entry.now; down = down.now })) }
 {
-    let ranks = top as usize;
+    let ranks = usize::from(top);
     if up.len() != ranks || down.len() != ranks {
         return Err(Refusal::RowLength);
     }
@@ -33,17 +32,7 @@ pub fn check_rows(top: u8, up: &[u64], down: &[u64]) -> Result<(), Refusal>
 fn any_excess(up: &[u64], down: &[u64]) -> bool
     ensures { result ≡ any_sum_over D up.now down.now }
 {
-    for i in 0..up.len().min(down.len()) {
-        if is_excess(up[i], down[i]) {
-            return true;
-        }
-    }
-    false
-}
-
-// The two are over the whole together.
-fn is_excess(up: u64, down: u64) -> bool
-    ensures { result ≡ nat_lt D (up + down) }
-{
-    up > WHOLE || down > WHOLE - up
+    up.iter()
+        .zip(down)
+        .any(|(up, down)| up.saturating_add(*down) > WHOLE)
 }

@@ -9,22 +9,23 @@ use share::Share;
 
 // The share of all components together, rounded down.
 pub(crate) fn share_of_all(rows: &[Row], vector: &[u8], reading: Reading) -> Share
-    ensures { result.value ≡ share_of_all rounded (shares_by reading rows.now vector.now) }
+    ensures { result ≡ share_of_all rounded (shares_by reading rows.now vector.now) }
 {
-    let mut product = Share::whole();
-    for (row, rank) in rows.iter().zip(vector) {
-        product = product.times_down(row.read(reading, *rank));
-    }
-    product
+    rows.iter()
+        .zip(vector)
+        .fold(Share::whole(), |product, (row, rank)| {
+            product.times_down(row.read(reading, *rank))
+        })
 }
 
 // The share of at least one component: the rest of all rests together, rounded up.
 pub(crate) fn share_of_any(rows: &[Row], vector: &[u8], reading: Reading) -> Share
-    ensures { result.value ≡ share_of_any rounded (shares_by reading rows.now vector.now) }
+    ensures { result ≡ share_of_any rounded (shares_by reading rows.now vector.now) }
 {
-    let mut none = Share::whole();
-    for (row, rank) in rows.iter().zip(vector) {
-        none = none.times_up(row.read(reading, *rank).rest());
-    }
-    none.rest()
+    rows.iter()
+        .zip(vector)
+        .fold(Share::whole(), |none, (row, rank)| {
+            none.times_up(row.read(reading, *rank).rest())
+        })
+        .rest()
 }

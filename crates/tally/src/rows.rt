@@ -1,16 +1,17 @@
 // Making the rows of a component, and what they say.
-ghost use Rattle.std.specs.Prelude.{◌≡◌, ◌≤◌, min, false, length, take, IfOk};
+ghost use Rattle.std.specs.Prelude.{◌≡◌, ◌-◌, ◌≤◌, ◌==◌, if◌then◌else◌, min, false, length, take, slice_index, slice_index_or, IfOk};
 ghost use Rattle.share.specs.Shares.{D};
 ghost use Rattle.structure.specs.Conditions.{any_over};
 ghost use Rattle.structure.specs.Refusals.{answer_by, judged};
-ghost use Rattle.promise.specs.Figures.{no_shares, up_at, down_at};
+ghost use Rattle.promise.specs.Figures.{no_shares};
 ghost use Rattle.promise.specs.Calls.{disordered};
-ghost use Rattle.tally.specs.Model.{billionths_of, in_billionths, rows_of, making_tests, reading_of};
+ghost use Rattle.tally.specs.Model.{rows_of, making_tests, reading_of};
 
 use crate::checks::check_rows;
 use crate::reading::Reading;
 use crate::row::Row;
 use share::Share;
+use std::array;
 use structure::{Refusal, any_fall, any_rise};
 
 impl Row {
@@ -41,7 +42,7 @@ impl Row {
 
     /// These shares, for as many ranks as the top says; for 7 where it is over 7.
     pub fn of(top: u8, up: [Share; 7], down: [Share; 7]) -> Row
-        ensures { rows_of result ≡ in_billionths (take (min top 7) up) (take (min top 7) down) }
+        ensures { rows_of result ≡ record { up = take (min top 7) up; down = take (min top 7) down } }
     {
         let top = usize::from(top.min(7));
         Row { top, up, down }
@@ -51,55 +52,41 @@ impl Row {
     pub fn zero(top: u8) -> Row
         ensures { rows_of result ≡ no_shares (min top 7) }
     {
-        let up = [Share::none(); 7];
-        let down = [Share::none(); 7];
-        Row::of(top, up, down)
+        let none = [Share::none(); 7];
+        Row::of(top, none, none)
     }
 
     /// Whether the up row rises, or the down row falls.
     pub fn is_disordered(&self) -> bool
         ensures { result ≡ disordered (rows_of self.now) }
     {
-        any_rise(&self.up[0..self.top]) || any_fall(&self.down[0..self.top])
+        any_rise(&self.up[..self.top]) || any_fall(&self.down[..self.top])
     }
 
     /// The share that a product takes where a vector gives the component this rank.
     pub fn read(&self, reading: Reading, rank: u8) -> Share
-        ensures { result.value ≡ reading_of reading (rows_of self.now) rank }
+        ensures { result ≡ reading_of reading (rows_of self.now) rank }
     {
-        let rank = rank as usize;
+        let rank = usize::from(rank);
+        let up = &self.up[..self.top];
+        let down = &self.down[..self.top];
+        let (none, whole) = (Share::none(), Share::whole());
         match reading {
-            Reading::UpAt => self.up_at(rank),
-            Reading::UpOver => self.up_at(rank + 1),
-            Reading::DownAt => self.down_at(rank),
-            Reading::DownOver => self.down_at(rank + 1),
+            Reading::UpAt => share_at(up, rank, whole, none),
+            Reading::UpOver => share_at(up, rank + 1, whole, none),
+            Reading::DownAt => share_at(down, rank, none, whole),
+            Reading::DownOver => share_at(down, rank + 1, none, whole),
         }
     }
+}
 
-    // The share that stays at the rank or higher.
-    fn up_at(&self, rank: usize) -> Share
-        ensures { result.value ≡ up_at (rows_of self.now) rank }
-    {
-        if rank == 0 {
-            Share::whole()
-        } else if rank <= self.top {
-            self.up[rank - 1]
-        } else {
-            Share::none()
-        }
-    }
-
-    // The share that stays below the rank.
-    fn down_at(&self, rank: usize) -> Share
-        ensures { result.value ≡ down_at (rows_of self.now) rank }
-    {
-        if rank == 0 {
-            Share::none()
-        } else if rank <= self.top {
-            self.down[rank - 1]
-        } else {
-            Share::whole()
-        }
+// A row's share of a rank; `at_zero` at rank 0, and `past` over the top.
+fn share_at(row: &[Share], rank: usize, at_zero: Share, past: Share) -> Share
+    ensures { result ≡ (if rank == 0 then at_zero else slice_index_or row.now (rank - 1) past) }
+{
+    match rank.checked_sub(1) {
+        Some(place) => row.get(place).copied().unwrap_or(past),
+        None => at_zero,
     }
 }
 
@@ -107,11 +94,17 @@ impl Row {
 fn shares(row: &[u64]) -> [Share; 7]
     requires short { length row.now ≤ 7 }
     requires shares { any_over D row.now ≡ false }
-    ensures { billionths_of (take (length row.now) result) ≡ row.now }
+    ensures { take (length row.now) result ≡ row.now }
 {
-    let mut out = [Share::none(); 7];
-    for (i, x) in row.iter().enumerate() {
-        out[i] = Share::new(*x).unwrap_or(Share::none());
-    }
-    out
+    array::from_fn(|place| share_in(row, place))
+}
+
+// The share of the billionths at a place; no share past the end.
+fn share_in(row: &[u64], place: usize) -> Share
+    requires { any_over D row.now ≡ false }
+    ensures { result ≡ slice_index row.now place }
+{
+    row.get(place)
+        .and_then(|billionths| Share::new(*billionths))
+        .unwrap_or(Share::none())
 }

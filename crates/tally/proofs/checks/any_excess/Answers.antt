@@ -1,19 +1,16 @@
-use Rattle.std.proofs.Common.{length, sym, inl, inr, add-one, arith}
-use Rattle.std.proofs.lemmas.Bool.{cases_lt}
+-- A test of the pairs is one of the two rows.
+use Rattle.std.proofs.Common.{ℕ, ◌+◌, ltb, ◌∙◌, rules, tests}
+use Rattle.std.proofs.lemmas.Iterator.{YieldsList-from_slice, YieldsList-from_zip}
+use Rattle.std.proofs.lemmas.Iterator.Search.{any_from_yields_List}
 use Rattle.share.specs.Shares.{D}
-use Rattle.tally.proofs.Excess.{sum_more, sum_found, sum_none_left, sum_none_right}
+use Rattle.tally.proofs.Pairs.{any_sum}
 use Rattle.tally.proofs.checks.any_excess.Goals as goal
 
-pub returns-then-is_excess : goal.returns-then-is_excess
-returns-then-is_excess c =
-    sym (sum_found D c.args.up.now c.args.down.now c.loop-i.i (omega arith) (omega arith) c.loop-i.invariant (sym c.if-is_excess.ensures))
-
-pub loop-i-preserved : goal.loop-i-preserved
-loop-i-preserved c =
-    rw add-one (sum_more D c.args.up.now c.args.down.now c.loop-i.i (omega arith) (omega arith) c.loop-i.invariant (sym c.if-is_excess.ensures))
-
 pub returns : goal.returns
-returns c = elim (cases_lt (length c.args.up.now) (length c.args.down.now)) [
-  | inl h ↦ sym (sum_none_left D c.args.up.now c.args.down.now c.loop-i.i (omega arith) c.loop-i.invariant)
-  | inr h ↦ sym (sum_none_right D c.args.up.now c.args.down.now c.loop-i.i (omega arith) c.loop-i.invariant)
-]
+returns c =
+    let up = c.args.up.now in
+    let down = c.args.down.now in
+    any_from_yields_List (λ (p : ℕ × ℕ). ltb D (p.0 + p.1)) c.any.new.self _ c.any.result c.any.ensures.ran
+    (YieldsList-from_zip (YieldsList-from_slice up cc) (YieldsList-from_slice down (cc c.zip.ensures.second.0)))
+    (λ x b q k. search (rules, tests)) ∙
+    any_sum D up down

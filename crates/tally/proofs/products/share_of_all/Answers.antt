@@ -1,29 +1,20 @@
--- The product with one component more, and with all of them.
-use Rattle.std.proofs.Common.{◌≡◌, sym, ap, ◌∙◌, ap₂}
-use Rattle.std.specs.Slice.Iter.{iter_rest}
-use Rattle.std.specs.Iterator.Adapters.{zip_first, zip_second}
-use Rattle.share.specs.Shares.{rounded, share_of_all}
-use Rattle.tally.specs.Model.{rows_of, reading_of}
-use Rattle.tally.proofs.Factors.{first_shares, shares_more, shares_all, all_push}
+-- The product over the pairs is one over the shares.
+use Rattle.std.proofs.Common.{ℕ, map, fold, ap, ◌∙◌, rules}
+use Rattle.std.proofs.lemmas.Iterator.{YieldsList-from_slice, YieldsList-from_zip}
+use Rattle.std.proofs.lemmas.Iterator.Consumers.{fold_from_yields_List}
+use Rattle.share.specs.Shares.{rounded}
+use Rattle.tally.specs.Model.{rows_of, reading_of, shares_by}
+use Rattle.tally.specs.declared.row.Row.{Row}
+use Rattle.tally.proofs.Pairs.{fold_shares}
 use Rattle.tally.proofs.products.share_of_all.Goals as goal
-
-pub loop-row-preserved : goal.loop-row-preserved
-loop-row-preserved c =
-    let rows = c.args.rows.now in
-    let v = c.args.vector.now in
-    let first : iter_rest (zip_first c.into_iter-row-iterator.result) ≡ rows = cc in
-    let second : iter_rest (zip_second c.into_iter-row-iterator.result) ≡ v = cc c.zip-row-items.ensures.second.0 in
-    let more = shares_more c.args.reading rows v c.loop-row.yielded c.into_iter-row-iterator.result c.loop-row.row-iterator c.next.new.self
-    c.next.result first second c.loop-row.yielded_by (c.in-Some.row, c.in-Some.rank) c.in-Some.is c.next.ensures.steps in
-    c.times_down-product.ensures ∙ ap₂ rounded.times_down c.loop-row.invariant c.read.ensures ∙
-    sym (ap (share_of_all rounded) more ∙ all_push (first_shares c.args.reading rows v _) (reading_of c.args.reading (rows_of c.in-Some.row.now) c.in-Some.rank.now))
 
 pub returns : goal.returns
 returns c =
     let rows = c.args.rows.now in
     let v = c.args.vector.now in
-    let first : iter_rest (zip_first c.into_iter-row-iterator.result) ≡ rows = cc in
-    let second : iter_rest (zip_second c.into_iter-row-iterator.result) ≡ v = cc c.zip-row-items.ensures.second.0 in
-    let all = shares_all c.args.reading rows v c.loop-row.yielded c.into_iter-row-iterator.result c.loop-row.row-iterator c.next.new.self
-    c.next.result first second c.loop-row.yielded_by c.in-None.is c.next.ensures.steps in
-    c.loop-row.invariant ∙ ap (share_of_all rounded) all
+    let at = reading_of c.args.reading in
+    fold_from_yields_List _ (λ b (p : Row × ℕ). rounded.times_down b (at (rows_of p.0) p.1)) _ _ c.fold.ensures.ran
+    (YieldsList-from_zip (YieldsList-from_slice rows cc) (YieldsList-from_slice v (cc c.zip.ensures.second.0)))
+    (λ b x r q k. search rules) ∙
+    fold_shares rounded.times_down rounded.share at c.whole.result rows v ∙
+    ap (λ d. fold rounded.times_down d (map rounded.share (shares_by c.args.reading rows v))) c.whole.ensures

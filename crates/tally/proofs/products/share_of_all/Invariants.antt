@@ -1,8 +1,0 @@
--- The product over the components so far.
-use Rattle.std.proofs.Common.{◌≡◌, length}
-use Rattle.share.specs.Shares.{rounded, share_of_all}
-use Rattle.tally.proofs.Factors.{first_shares}
-use Rattle.tally.proofs.products.share_of_all.Given as goal
-
-abbrev pub invariant-loop-row : goal.invariant-loop-row
-invariant-loop-row l = l.product.value ≡ share_of_all rounded (first_shares l.reading l.rows l.vector (length l.yielded))
