@@ -1,31 +1,34 @@
 -- A module's figures level by level as rows of shares, and what carry answers. Assumes nothing.
-use Rattle.std.proofs.Common.{◌≡◌, ℕ, suc, ◌+◌, ◌-◌, ◌<◌, ◌≤◌, cond, not, eqb, List, [], ◌∷◌, ◌++◌, map, length, get_or, take, set, sym, ap, ◌∙◌, ap₂, add-one, arith}
+use Rattle.std.proofs.Common.{◌≡◌, ℕ, zero, suc, ◌+◌, ◌-◌, ◌<◌, ◌≤◌, cond, not, eqb, List, [], ◌∷◌, ◌++◌, map, length, get_or, take, set, sym, ap, ◌∙◌, ap₂, add-one, arith}
 use Rattle.std.proofs.lemmas.List.{map_push, take_more_set, get_or_read}
 use Rattle.std.proofs.lemmas.Bool.{cond-false, eq-eqb}
-use Rattle.share.specs.declared.share.Share.{Share}
 use Rattle.structure.specs.Refusals.{Answer, refused, given}
 use Rattle.structure.specs.Conditions.{outside}
 use Rattle.structure.proofs.Judged.{not_outside}
 use Rattle.promise.specs.Figures.{Rows}
 use Rattle.promise.specs.Held.{levels_to}
 use Rattle.promise.specs.Calls.{disordered, carry_answer}
-use Rattle.tally.specs.Model.{billionths_of}
 
 -- ## The rows
 
 levels_more : (f : ℕ → ℕ) (i : ℕ) → map f (levels_to (i + 1)) ≡ map f (levels_to i) ++ f (i + 1) ∷ []
 levels_more f i = rw add-one (map_push f (levels_to i) (suc i))
 
--- the figure of one level more
-pub figures_more : (f : ℕ → ℕ) (xs : List Share) (i : ℕ) (s : Share) → i < length xs → s.value ≡ f (i + 1) →
-    billionths_of (take i xs) ≡ map f (levels_to i) → billionths_of (take (i + 1) (set xs i s)) ≡ map f (levels_to (i + 1))
-figures_more f xs i s h e so_far =
-    ap billionths_of (take_more_set xs i s h) ∙ map_push (λ s. s.value) (take i xs) s ∙ ap₂ (λ ys y. ys ++ y ∷ []) so_far e ∙ sym (levels_more f i)
+-- one level more, at its place
+pub figures_more : (f : ℕ → ℕ) (xs : List ℕ) (i s level n m : ℕ) → i < length xs → level ≡ i + 1 → s ≡ f level → n ≡ level → m ≡ level →
+    take (level - 1) xs ≡ map f (levels_to (level - 1)) → take n (set xs i s) ≡ map f (levels_to m)
+figures_more f xs i s level n m h is e long all so_far =
+    let before : level - 1 ≡ i = omega arith in
+    let here : n ≡ i + 1 = omega arith in
+    let end : i + 1 ≡ m = omega arith in
+    ap (λ k. take k (set xs i s)) here ∙ take_more_set xs i s h ∙
+    ap₂ (λ ys y. ys ++ y ∷ []) (ap (λ k. take k xs) (sym before) ∙ so_far ∙ ap (λ k. map f (levels_to k)) before) (e ∙ ap f is) ∙
+    sym (levels_more f i) ∙ ap (λ k. map f (levels_to k)) end
 
--- of every level
-pub figures_all : (f : ℕ → ℕ) (xs : List Share) (i n best : ℕ) → n ≡ i → i ≡ best → billionths_of (take i xs) ≡ map f (levels_to i) →
-    billionths_of (take n xs) ≡ map f (levels_to best)
-figures_all f xs i n best e g so_far = ap (λ k. billionths_of (take k xs)) e ∙ so_far ∙ ap (λ k. map f (levels_to k)) g
+-- where the first level is past the last, there is none
+pub figures_none : (f : ℕ → ℕ) (xs : List ℕ) (level n m : ℕ) → n ≡ m → m < level → (1 ≤ m → level ≤ m) → take n xs ≡ map f (levels_to m)
+figures_none f xs level n zero e past within = ap (λ k. take k xs) e
+figures_none f xs level n (suc m) e past within = absurd (omega (arith, within (omega arith)))
 
 -- ## The answers
 

@@ -1,6 +1,8 @@
 -- The figures of a level from the tallies of the two lists that a ledger holds. Assumes nothing.
-use Rattle.std.proofs.Common.{◌≡◌, ℕ, ◌≤◌, Bool, true, false, cond, List, map, length, vec_items, vec_len, sym, refl, ap, ◌∙◌, ap₂, arith}
+use Rattle.std.proofs.Common.{◌≡◌, ℕ, ◌≤◌, Bool, true, false, cond, List, map, length, vec_items, vec_len, Option, unwrap_or, sym, refl, ap, ◌∙◌, ap₂, arith}
 use Rattle.std.proofs.lemmas.Bool.Decides.{nat_tests}
+use Rattle.std.specs.Bool.{then_some}
+use Rattle.std.specs.Option.{option_map}
 use Rattle.share.specs.Shares.{rounded}
 use Rattle.structure.specs.Minimal.{Entry}
 use Rattle.structure.specs.Conditions.{outside}
@@ -32,14 +34,17 @@ module _ (t : Ledger) (level : ℕ) {rows : List Row} {slice records : List Reco
       a ≡ best_of rounded (shares_at (reading_of reading) (held t).rows) entries
   held_best reading a e = e ∙ held_by (best_of rounded) reading
 
-  pub held_all : (reading : Reading) (a : ℕ) → a ≡ all_of rounded (shares_by reading rows) (entries_at level rows slice) →
-      a ≡ all_of rounded (shares_at (reading_of reading) (held t).rows) entries
-  held_all reading a e = e ∙ held_by (all_of rounded) reading
+  pub held_all : (reading : Reading) → all_of rounded (shares_by reading rows) (entries_at level rows slice) ≡
+      all_of rounded (shares_at (reading_of reading) (held t).rows) entries
+  held_all reading = held_by (all_of rounded) reading
 
--- the second number counts only where finished
-pub better_same : (finished : Bool) (a a' b b' : ℕ) → a ≡ a' → (finished ≡ true → b ≡ b') → better rounded finished a b ≡ better rounded finished a' b'
-better_same true a a' b b' e f = ap₂ rounded.larger e (f refl)
-better_same false a a' b b' e f = e
+-- all vectors at once, asked for only where finished
+pub better_where : (finished : Bool) (by : Reading) (f : Reading → ℕ) (a a' b' : ℕ) (asked : Option Reading) (together : Option ℕ) →
+    asked ≡ then_some finished by → together ≡ option_map f asked → a ≡ a' → f by ≡ b' →
+    unwrap_or (option_map (rounded.larger a) together) a ≡ better rounded finished a' b'
+better_where true by f a a' b' asked together e g h k =
+    ap (λ o. unwrap_or (option_map (rounded.larger a) o) a) (g ∙ ap (option_map f) e) ∙ ap₂ rounded.larger h k
+better_where false by f a a' b' asked together e g h k = ap (λ o. unwrap_or (option_map (rounded.larger a) o) a) (g ∙ ap (option_map f) e) ∙ h
 
 -- figures that agree in each part are given for a level that there is
 pub given_figures : (level best : ℕ) (a b : Figures) → 1 ≤ level → level ≤ best → a.low ≡ b.low → a.high ≡ b.high → a.paths ≡ b.paths → a.cuts ≡ b.cuts →

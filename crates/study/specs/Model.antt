@@ -1,6 +1,5 @@
 -- What the values of the code stand for: the ledger, words and answers. Assumes nothing.
 use Rattle.std.specs.Prelude.{ℕ, List, map, vec_items, vec_len}
-use Rattle.share.specs.declared.share.Share.{Share}
 use Rattle.promise.specs.Use.{Word, finished, full, still_open, Side, path_list, cut_list, Figures}
 use Rattle.promise.specs.Held.{Held, first_held}
 use Rattle.tally.specs.Model.{rows_of, entry_of}
@@ -35,8 +34,8 @@ side_of Paths = path_list
 side_of Cuts = cut_list
 
 -- the two figures and the two counts
-abbrev pub figures_in : Share × Share × ℕ × ℕ → Figures
-figures_in a = record { low = a.0.value; high = a.1.value; paths = a.2; cuts = a.3 }
+abbrev pub figures_in : ℕ × ℕ × ℕ × ℕ → Figures
+figures_in a = record { low = a.0; high = a.1; paths = a.2; cuts = a.3 }
 
 -- what is held at the open of a study with these tops and this best level
 abbrev pub fresh : List ℕ → ℕ → Held

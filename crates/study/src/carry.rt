@@ -17,11 +17,10 @@ impl Ledger {
     // Of a level that there is: low, and the whole less high.
     fn enclosed(&self, level: u8) -> (Share, Share)
         requires { (1 ≤ level) × (level ≤ self.now.best) }
-        ensures up { result.0.value ≡ (figures_from (held self.now) level).low }
-        ensures down { result.1.value ≡ D - (figures_from (held self.now) level).high }
+        ensures up { result.0 ≡ (figures_from (held self.now) level).low }
+        ensures down { result.1 ≡ D - (figures_from (held self.now) level).high }
     {
-        let figures = self.figures(level).unwrap();
-        let (low, high, _, _) = figures;
+        let (low, high, _, _) = self.figures(level).unwrap();
         (low, high.rest())
     }
 
@@ -32,10 +31,9 @@ impl Ledger {
     {
         let mut up = [Share::none(); 7];
         let mut down = [Share::none(); 7];
-        for place in 0..self.best {
-            let (low, rest) = self.enclosed(place + 1);
-            up[place as usize] = low;
-            down[place as usize] = rest;
+        for level in 1..=self.best {
+            let place = usize::from(level - 1);
+            (up[place], down[place]) = self.enclosed(level);
         }
         Row::of(self.best, up, down)
     }

@@ -1,8 +1,7 @@
 // The two figures of a level.
-ghost use Rattle.std.specs.Prelude.{◌≡◌};
+ghost use Rattle.std.specs.Prelude.{◌≡◌, unwrap_or, option_map};
 ghost use Rattle.share.specs.Shares.{rounded};
 ghost use Rattle.structure.specs.Refusals.{answer_by};
-ghost use Rattle.promise.specs.Figures.{better};
 ghost use Rattle.promise.specs.Calls.{Answers};
 ghost use Rattle.promise.specs.Promise.{Promised};
 ghost use Rattle.study.specs.Model.{held, figures_in};
@@ -25,33 +24,27 @@ impl Ledger {
             &self.rows,
             &self.paths,
             level,
-            self.finished,
             Reading::UpAt,
-            Reading::DownAt,
+            self.finished.then_some(Reading::DownAt),
         );
         let cuts = tally_level(
             &self.rows,
             &self.cuts,
             level,
-            self.finished,
             Reading::DownOver,
-            Reading::UpOver,
+            self.finished.then_some(Reading::UpOver),
         );
-        let low = better(self.finished, paths.best, cuts.all);
-        let high = better(self.finished, cuts.best, paths.all).rest();
+        let low = better(paths.best, cuts.all);
+        let high = better(cuts.best, paths.all).rest();
         Ok((low, high, paths.count, cuts.count))
     }
 }
 
-// The product over the other list counts once every vector is examined.
-fn better(finished: bool, alone: Share, together: Share) -> Share
-    ensures { result.value ≡ better rounded finished alone.value together.value }
+// The larger of the best vector alone and the product over the other list, where that counts.
+fn better(alone: Share, together: Option<Share>) -> Share
+    ensures { result ≡ unwrap_or (option_map (rounded.larger alone) together) alone }
 {
-    if finished {
-        alone.larger(together)
-    } else {
-        alone
-    }
+    together.map_or(alone, |together| alone.larger(together))
 }
 
 impl<S: Structure + Drop> Study<S> {

@@ -1,7 +1,6 @@
 // A component's two rows of shares.
-ghost use Rattle.std.specs.Prelude.{◌≤◌};
-
 use share::Share;
+use std::marker::Model;
 
 /// The shares of a component for the ranks from 1 to its top: up, that it stays at the rank or higher; down, that it
 /// stays below it.
@@ -11,5 +10,18 @@ pub struct Row {
     pub(crate) top: usize,
     pub(crate) up: [Share; 7],
     pub(crate) down: [Share; 7],
-    ghost short: { top ≤ 7 },
+}
+
+// A model of all fields and no ghost field: a plain struct of shares, which have a model, gets no proof at `?` and `push`.
+impl Model for Row {
+    ghost use Rattle.std.specs.Prelude.{◌≤◌};
+    ghost use Rattle.tally.specs.Places.{Places};
+
+    ghost Value = { Places };
+
+    ghost view = { λ r. record { top = r.top; up = r.up; down = r.down } };
+
+    ghost invariant = { λ r. r.top ≤ 7 };
+
+    ghost inverse = { λ p. record { top = p.top; up = p.up; down = p.down } };
 }

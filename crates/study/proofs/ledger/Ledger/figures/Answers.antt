@@ -4,8 +4,7 @@ use Rattle.share.specs.Shares.{rounded}
 use Rattle.promise.specs.Held.{figures_from}
 use Rattle.study.specs.Model.{held, figures_in}
 use Rattle.tally.specs.declared.reading.Reading.TheVariants.{UpAt, UpOver, DownAt, DownOver}
-use Rattle.tally.proofs.Tallies.{counts_where}
-use Rattle.study.proofs.FromTallies.{held_entries, held_best, held_all, better_same, given_figures}
+use Rattle.study.proofs.FromTallies.{held_entries, held_best, held_all, better_where, given_figures}
 use Rattle.study.proofs.ledger.Ledger.figures.Goals as goal
 
 pub returns : goal.returns
@@ -18,12 +17,12 @@ returns c =
     let again = c.deref-3.ensures in
     let path_list = c.deref-2.ensures.value in
     let Cut-list = c.deref-4.ensures.value in
-    let low = c.better-low.ensures ∙ better_same t.finished _ _ _ _
+    let low = c.better-low.ensures ∙ better_where t.finished UpOver _ _ _ _ _ _ c.then_some-2.ensures cuts.ensures.all
     (held_best t level rows.value rows.len path_list UpAt _ paths.ensures.best)
-    (λ f. held_all t level again.value again.len Cut-list UpOver _ (counts_where t.finished _ _ f cuts.ensures.all)) in
-    let high = c.rest-high.ensures ∙ ap rounded.rest (c.better.ensures ∙ better_same t.finished _ _ _ _
+    (held_all t level again.value again.len Cut-list UpOver) in
+    let high = c.rest-high.ensures ∙ ap rounded.rest (c.better.ensures ∙ better_where t.finished DownAt _ _ _ _ _ _ c.then_some.ensures paths.ensures.all
     (held_best t level again.value again.len Cut-list DownOver _ cuts.ensures.best)
-    (λ f. held_all t level rows.value rows.len path_list DownAt _ (counts_where t.finished _ _ f paths.ensures.all))) in
+    (held_all t level rows.value rows.len path_list DownAt)) in
     let path-count = paths.ensures.count ∙
     ap length (held_entries t level rows.value rows.len path_list) in
     let cut-count = cuts.ensures.count ∙
