@@ -1,5 +1,6 @@
 // Examining one vector.
-ghost use Rattle.std.specs.Prelude.{◌≡◌, ◌<◌, ◌≤◌, false, ◌++◌, take, vec_len, vec_capacity};
+ghost use Rattle.std.specs.Prelude.{◌≡◌, ◌<◌, ◌≤◌, false, IsSome, ◌+◌, ◌++◌, length, take, vec_len, vec_capacity};
+ghost use Rattle.std.specs.Option.{is_some};
 ghost use Rattle.study.specs.Model.{held};
 ghost use Rattle.study.specs.Examining.{FindsLevels, record_over, full_for, Lists, Examines};
 
@@ -44,12 +45,12 @@ fn list_over(list: &mut Vec<Record>, vector: [u8; 12], under: u8, last: u8)
 
 impl Ledger {
     // Asks the structure about a vector; none where it does not answer.
-    fn levels<S: Structure>(&self, structure: &S, vector: &[u8; 12]) -> Option<Levels>
-        ensures { FindsLevels (S.Structure.shape structure.now) self.now.tops.items self.now.best (take (vec_len self.now.tops) vector.now) result }
+    fn levels<S: Structure>(&self, structure: &S, vector: &[u8]) -> Option<Levels>
+        requires { length vector.now ≤ 12 }
+        ensures { FindsLevels (S.Structure.shape structure.now) self.now.tops.items self.now.best vector.now result }
     {
-        let n = self.tops.len();
-        let level = structure.level(&vector[0..n])?;
-        let below = highest_below(structure, vector, n)?;
+        let level = structure.level(vector)?;
+        let below = highest_below(structure, vector)?;
         let above = lowest_above(structure, &self.tops, self.best, vector)?;
         Some(Levels {
             level,
@@ -58,33 +59,32 @@ impl Ledger {
         })
     }
 
-    // Lists the records that the vector needs, and counts it as examined; false, and nothing changed, where a list that
+    // Lists the records that the vector needs, and counts it as examined; none, and nothing changed, where a list that
     // needs one is full.
-    fn list(&mut self, vector: [u8; 12], levels: Levels) -> bool
+    fn list(&mut self, vector: [u8; 12], levels: Levels) -> Option<()>
         requires { self.old.examined < self.old.vectors }
-        ensures { Lists (held self.old) (take (vec_len self.old.tops) vector) levels result (held self.new) }
+        ensures { Lists (held self.old) (take (vec_len self.old.tops) vector) levels (is_some result) (held self.new) }
     {
         let paths_full = is_full(&self.paths, levels.below, levels.level);
         let cuts_full = is_full(&self.cuts, levels.level, levels.above);
         if paths_full || cuts_full {
-            return false;
+            return None;
         }
         list_over(&mut self.paths, vector, levels.below, levels.level);
         list_over(&mut self.cuts, vector, levels.level, levels.above);
         self.examined += 1;
-        true
+        Some(())
     }
 
-    // Examines the next vector; false, and nothing changed, where a list that it needs a record in is full, or where the
+    // Examines the next vector; none, and nothing changed, where a list that it needs a record in is full, or where the
     // structure does not answer.
-    pub(crate) fn examine<S: Structure>(&mut self, structure: &S) -> bool
+    pub(crate) fn examine<S: Structure>(&mut self, structure: &S) -> Option<()>
         requires { self.old.examined < self.old.vectors }
-        ensures { Examines (S.Structure.shape structure.now) (held self.old) result (held self.new) }
+        ensures examines { Examines (S.Structure.shape structure.now) (held self.old) (is_some result) (held self.new) }
+        ensures counts { IsSome result → self.new.examined ≡ self.old.examined + 1 }
     {
         let vector = vector_of(&self.tops, self.examined);
-        match self.levels(structure, &vector) {
-            Some(levels) => self.list(vector, levels),
-            None => false,
-        }
+        let levels = self.levels(structure, &vector[..self.tops.len()])?;
+        self.list(vector, levels)
     }
 }

@@ -13,18 +13,17 @@ impl Ledger {
     pub(crate) fn step<S: Structure>(&mut self, structure: &S, budget: usize) -> (usize, Word)
         ensures { Steps (S.Structure.shape structure.now) (held self.old) budget result.0 (word_of result.1) (held self.new) }
     {
-        let mut number: usize = 0;
-        while number < budget && self.examined < self.vectors {
-            if !self.examine(structure) {
+        let most = budget.min(self.vectors - self.examined);
+        for number in 0..most {
+            if self.examine(structure).is_none() {
                 return (number, Word::Full);
             }
-            number += 1;
         }
         if self.examined < self.vectors {
-            return (number, Word::Open);
+            return (most, Word::Open);
         }
         self.finished = true;
-        (number, Word::Finished)
+        (most, Word::Finished)
     }
 }
 

@@ -1,5 +1,5 @@
 -- The highest level among the components so far.
-use Rattle.std.proofs.Common.{◌≡◌, T, take}
+use Rattle.std.proofs.Common.{◌≡◌, T}
 use Rattle.structure.specs.Shape.{within}
 use Rattle.structure.proofs.Neighbourhood.{highest_to}
 use Rattle.study.proofs.neighbours.highest_below.Given as goal
@@ -7,4 +7,4 @@ use Rattle.study.proofs.neighbours.highest_below.Given as goal
 abbrev pub invariant-loop-i : goal.invariant-loop-i
 invariant-loop-i g l =
     let s = g.S.Structure.shape l.structure in
-    T (within s.tops (take l.n l.vector)) → l.highest ≡ highest_to s.level (take l.n l.vector) l.i
+    T (within s.tops l.vector) → l.highest ≡ highest_to s.level l.vector l.i

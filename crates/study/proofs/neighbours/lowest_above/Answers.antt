@@ -1,42 +1,59 @@
 -- The structure answers for each vector one rank higher, and the lowest goes on with it.
-use Rattle.std.proofs.Common.{◌<◌, ◌≤◌, length, get_or, Some, ap, arith}
-use Rattle.study.proofs.Near.{upper_answered, lowest_more, lowest_same, lowest_found}
+use Rattle.std.proofs.Common.{◌≡◌, ◌+◌, length, get_or, set, Some, sym, ap, ◌∙◌, ⊎_elim, inl, inr, arith}
+use Rattle.std.specs.Iterator.Adapters.{enumerate_count}
+use Rattle.structure.specs.Questions.{level_if_within}
+use Rattle.structure.proofs.Below.{length_within}
+use Rattle.study.proofs.Near.{turn, left_none, upper_answered, lowest_more, lowest_same, lowest_found}
 use Rattle.study.proofs.neighbours.lowest_above.Goals as goal
-use Rattle.study.proofs.neighbours.lowest_above.Goals.{then-rank-tops+in_ok-level, else-rank-tops}
 
 pub returns-in_err-level : goal.returns-in_err-level
 returns-in_err-level g c tops best here =
     let s = g.S.Structure.shape c.args.structure.now in
     let v = c.args.vector.now in
-    let i = c.loop-i.i in
-    let below : get_or v i 0 < get_or s.tops i 0 = rw tops at c.if-rank-tops.true in
-    let answered = upper_answered s v (length c.args.tops.now) i c.loop-i-test.true here below in
+    let p = c.in-Some.ensures.steps in
+    let t = turn _ _ _ _ _ c.loop-i.invariant.left p.0.0 p.0.1 p.2 in
+    let i = c.in-Some.i in
+    let rank : get_or v i 0 ≡ c.in-Some.rank.now = rw p.1 t.rank in
+    let top : get_or s.tops i 0 ≡ c.in-Some.top.now = rw (p.1, sym tops) t.top in
+    let answered = upper_answered s v i here (omega (arith, c.if-rank-top.true)) in
     let none = c.in_err-level.was in
     cc
 
 pub loop-i-preserved : goal.loop-i-preserved
-loop-i-preserved g c tops here =
+loop-i-preserved g c =
     let s = g.S.Structure.shape c.args.structure.now in
     let v = c.args.vector.now in
-    let n = length c.args.tops.now in
-    let i = c.loop-i.i in
-    elim c.if-rank-tops.branch [
-      | then-rank-tops+in_ok-level w ↦
-          let below : get_or v i 0 < get_or s.tops i 0 = rw tops at w.if-rank-tops.true in
-          let more = lowest_more s v n i c.loop-i-test.true here c.args.best c.loop-i.lowest (c.loop-i.invariant tops here)
-          w.in_ok-level.level w.level_with.result below w.level_with.ensures w.in_ok-level.was in
-          cc
-      | else-rank-tops w ↦
-          let above : get_or s.tops i 0 ≤ get_or v i 0 = rw tops at w.if-rank-tops.false in
-          let same = lowest_same s v n i c.loop-i-test.true here c.args.best c.loop-i.lowest (c.loop-i.invariant tops here) above in
-          cc
-    ]
+    let p = c.in-Some.ensures.steps in
+    let t = turn _ _ _ _ _ c.loop-i.invariant.left p.0.0 p.0.1 p.2 in
+    let i = enumerate_count c.loop-i.i-iterator in
+    record {
+      left = t.left;
+      lowest = λ tops here.
+          let top : get_or s.tops i 0 ≡ c.in-Some.top.now = rw tops at t.top in
+          let same = lowest_same s v i here c.args.best c.loop-i.lowest (c.loop-i.invariant.lowest tops here) (omega (arith, t.rank, c.if-rank-top.false)) in
+          cc (p.2);
+    }
+
+pub loop-i-preserved-then-rank-top : goal.loop-i-preserved-then-rank-top
+loop-i-preserved-then-rank-top g c =
+    let s = g.S.Structure.shape c.args.structure.now in
+    let v = c.args.vector.now in
+    let p = c.in-Some.ensures.steps in
+    let t = turn _ _ _ _ _ c.loop-i.invariant.left p.0.0 p.0.1 p.2 in
+    let i = enumerate_count c.loop-i.i-iterator in
+    record {
+      left = t.left;
+      lowest = λ tops here.
+          let top : get_or s.tops i 0 ≡ c.in-Some.top.now = rw tops at t.top in
+          let asked : c.level_with.result ≡ level_if_within s (set v i (get_or v i 0 + 1)) = rw (t.rank, sym p.1) c.level_with.ensures in
+          let more = lowest_more s v i here c.args.best c.loop-i.lowest (c.loop-i.invariant.lowest tops here) c.in_ok-level.level c.level_with.result
+          (omega (arith, t.rank, c.if-rank-top.true)) asked c.in_ok-level.was in
+          cc (p.2, c.min-lowest.ensures);
+    }
 
 pub returns : goal.returns
 returns g c tops best here =
     let s = g.S.Structure.shape c.args.structure.now in
-    let v = c.args.vector.now in
-    let n = length c.args.tops.now in
-    ap Some
-    (lowest_found s v n c.loop-i.i (omega arith) (omega arith) c.args.best c.loop-i.lowest
-    (ap length tops) best (c.loop-i.invariant tops here))
+    let long = length_within s.tops c.args.vector.now here in
+    let e = left_none _ _ _ _ _ c.loop-i.invariant.left (long ∙ ap length (sym tops)) (⊎_elim (λ (u, h). inl h.0) (λ (u, h). inr h.0) c.in-None.ensures.steps.0) in
+    ap Some (lowest_found s c.args.vector.now _ c.args.best c.loop-i.lowest (e ∙ ap length tops) long best (c.loop-i.invariant.lowest tops here))
