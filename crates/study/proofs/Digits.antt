@@ -1,9 +1,9 @@
 -- The vector of a number, rank by rank from the last component on. Assumes nothing.
-use Rattle.std.proofs.Common.{◌≡◌, ℕ, ◌+◌, ◌*◌, ◌/◌, ◌%◌, ◌<◌, ◌≤◌, List, [], ◌∷◌, length, get_or, take, drop, set, sym, ap, ◌∙◌, ap₂, mod-eq_of_lt, mul_comm, arith, length-set}
+use Rattle.std.proofs.Common.{◌≡◌, ℕ, ◌+◌, ◌*◌, ◌/◌, ◌%◌, ◌<◌, ◌≤◌, List, [], ◌∷◌, ◌++◌, length, get_or, take, drop, set, sym, ap, ◌∙◌, ap₂, mod-eq_of_lt, mul_comm, arith, length-set}
 use native.Mathlib.Nat.{div-div-eq-div-mul}
 use lib.Seq.{take-set-lt}
 use lib.Arith.{mod-mul, digits_div, digits_mod}
-use Rattle.std.proofs.lemmas.List.{drop_all, drop_more, drop-set, length-take-le}
+use Rattle.std.proofs.lemmas.List.{drop_all, drop_more, drop-set, length-take, length-take-le, length_push, same_from_push, take_more}
 use Rattle.std.proofs.lemmas.Nat.{mod_below}
 use Rattle.structure.specs.Shape.{vector_count}
 use Rattle.structure.specs.Order.{vector_of}
@@ -64,3 +64,20 @@ ranks_more tops v k i left h r =
 -- all of them
 pub ranks_all : (tops v : List ℕ) (k left : ℕ) → RanksFrom tops v k 0 left → k < vector_count tops → take (length tops) v ≡ vector_of tops k
 ranks_all tops v k left r h = r.ranks ∙ ap (vector_of tops) (mod-eq_of_lt h)
+
+-- ## The tops that are left
+
+-- the last of them stands at the place that is the number of those before it
+pub record LastLeft (tops rest before : List ℕ) (top : ℕ) : Type 0 where
+  pub long : length rest ≡ length before + 1
+  pub inside : length before < length tops
+  pub is : top ≡ get_or tops (length before) 0
+  pub front : before ≡ take (length before) tops
+
+pub last_left : (tops rest before : List ℕ) (top : ℕ) → rest ≡ take (length rest) tops → rest ≡ before ++ top ∷ [] → LastLeft tops rest before top
+last_left tops rest before top e f =
+    let long : length rest ≡ length before + 1 = ap length f ∙ length_push before top in
+    let inside : length before < length tops = omega (arith, ap length e, length-take (length rest) tops) in
+    let parts = same_from_push before (take (length before) tops) top (get_or tops (length before) 0)
+    (sym f ∙ e ∙ ap (λ n. take n tops) long ∙ take_more tops (length before) 0 inside) in
+    record { long = long; inside = inside; is = parts.1; front = parts.0 }

@@ -10,8 +10,8 @@ pub(crate) fn vector_of(tops: &[u8], number: usize) -> [u8; 12]
 {
     let mut vector = [0u8; 12];
     let mut left = number;
-    for i in (0..tops.len()).rev() {
-        let ranks = tops[i] as usize + 1;
+    for (i, top) in tops.iter().enumerate().rev() {
+        let ranks = *top as usize + 1;
         vector[i] = (left % ranks) as u8;
         left /= ranks;
     }
