@@ -1,19 +1,23 @@
 -- What the loops of an open have read and made so far. Assumes nothing.
-use Rattle.std.proofs.Common.{◌≡◌, ℕ, zero, suc, ◌+◌, ◌<◌, ◌≤◌, List, [], ◌∷◌, ◌++◌, map, length, get_or, take, unwrap_or, sym, ap, ◌∙◌, subst, ap₂, le_of_suc-le-suc, arith}
-use Rattle.std.proofs.lemmas.List.{take_more, map_more, map_push}
+use Rattle.std.proofs.Common.{◌≡◌, ℕ, zero, suc, Option, ◌+◌, ◌-◌, ◌<◌, ◌≤◌, List, [], ◌∷◌, ◌++◌, map, length, min, get_or, refl, take, unwrap_or, sym, ap, ◌∙◌, subst, ap₂, le_of_suc-le-suc, arith}
+use Rattle.std.proofs.lemmas.List.{take_more}
 use Rattle.structure.specs.Questions.{at_place}
 use Rattle.structure.proofs.Asked.{place_next}
 use Rattle.structure.specs.Shape.{Shape, Lawful, TopsFit, vector_count}
 
--- one more top is read
-pub tops_more : (xs ys zs : List ℕ) (i : ℕ) → i < length xs → ys ≡ take i xs → zs ≡ ys ++ unwrap_or (at_place xs (i + 1)) 0 ∷ [] → zs ≡ take (i + 1) xs
-tops_more xs ys zs i h e f = f ∙ ap₂ (λ ws x. ws ++ x ∷ []) e (place_next xs i h) ∙ sym (take_more xs i 0 h)
+-- the top of component i is read
+pub tops_more : (xs ys zs : List ℕ) (top : ℕ) {o : Option ℕ} (i : ℕ) → 1 ≤ i → i ≤ length xs → ys ≡ take (i - 1) xs → o ≡ at_place xs i →
+    top ≡ unwrap_or o 0 → zs ≡ ys ++ top ∷ [] → zs ≡ take i xs
+tops_more xs ys zs top i low high e a b f =
+    let j = i - 1 in
+    let is : j + 1 ≡ i = omega arith in
+    let here : top ≡ get_or xs j 0 = b ∙ ap (λ p. unwrap_or p 0) a ∙ (rw is at (place_next xs j (omega arith))) in
+    f ∙ ap₂ (λ ws x. ws ++ x ∷ []) e here ∙ sym (take_more xs j 0 (omega arith)) ∙ ap (λ k. take k xs) is
 
--- one more element is made
-pub made_more : {A B : Type 0} (f : A → B) (g : ℕ → B) (xs : List ℕ) (ys zs : List A) (y : A) (i : ℕ) → i < length xs →
-    map f ys ≡ map g (take i xs) → zs ≡ ys ++ y ∷ [] → f y ≡ g (get_or xs i 0) → map f zs ≡ map g (take (i + 1) xs)
-made_more f g xs ys zs y i h e q r =
-    ap (map f) q ∙ map_push f ys y ∙ ap₂ (λ ws x. ws ++ x ∷ []) e r ∙ sym (map_more g xs i 0 h)
+-- tops of at most 7 are made of as they are
+pub made_low : {A : Type 0} (f : ℕ → A) (xs : List ℕ) → ((k : ℕ) → k < length xs → get_or xs k 0 ≤ 7) → map (λ x. f (min x 7)) xs ≡ map f xs
+made_low f [] low = refl
+made_low f (x ∷ xs) low = ap₂ ◌∷◌ (ap f (omega (arith, low 0 (omega arith)))) (made_low f xs (λ k h. low (suc k) (omega arith)))
 
 -- each top is at most 7
 top_low : (tops : List ℕ) → TopsFit tops → (k : ℕ) → k < length tops → get_or tops k 0 ≤ 7

@@ -58,8 +58,8 @@ fn tops_of<S: Structure>(heap: Global, structure: &S) -> Result<Vec<u8>, AllocEr
 {
     let n = structure.components();
     let mut tops = Vec::with_capacity(heap, n)?;
-    for i in 0..n {
-        tops.push(structure.top(i + 1).unwrap_or(0))?;
+    for component in 1..=n {
+        tops.push(structure.top(component).unwrap_or(0))?;
     }
     Ok(tops)
 }
@@ -70,9 +70,5 @@ fn zero_rows(heap: Global, tops: &[u8]) -> Result<Vec<Row>, AllocError>
     ensures rows { IfOk result (λ v. map rows_of v.items ≡ map no_shares tops.now) }
     ensures len { IfOk result (λ v. vec_len v ≡ length tops.now) }
 {
-    let mut rows = Vec::with_capacity(heap, tops.len())?;
-    for top in tops {
-        rows.push(Row::zero(*top))?;
-    }
-    Ok(rows)
+    tops.iter().map(|top| Row::zero(*top)).collect(heap)
 }
