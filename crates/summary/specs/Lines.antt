@@ -1,6 +1,7 @@
 -- The lines of a report. Assumes nothing.
 use Rattle.std.specs.Prelude.{ℕ, List, [], ◌∷◌, ◌++◌, codes, decimal}
-use Rattle.promise.specs.Use.{Word, finished, full, still_open, Figures}
+use Rattle.promise.specs.Use.{Word, Figures}
+use Rattle.study.specs.Words.{word_text}
 
 -- a line: the key, the number in decimal digits, and the byte that ends it
 abbrev pub line : List ℕ → ℕ → List ℕ
@@ -12,9 +13,7 @@ fault_lines number at = line (codes "fault=") number ++ line (codes "line=") at
 
 -- how the search ended
 abbrev pub search_line : Word → List ℕ
-search_line finished = codes "search=finished\n"
-search_line full = codes "search=full\n"
-search_line still_open = codes "search=open\n"
+search_line word = codes "search=" ++ (word_text word ++ (10 ∷ []))
 
 -- the figures of a level, with its path and cut entries counted
 abbrev pub level_lines : ℕ → Figures → List ℕ
