@@ -32,7 +32,7 @@ fn outcome(heap: Global, text: &[u8]) -> Result<Option<(u8, usize)>, Fail> {
     match read(heap, text) {
         Ok(_) => Ok(None),
         Err(ReadError::Fault(fault)) => Ok(Some((fault.refusal.number(), fault.line))),
-        Err(ReadError::Memory) => Err(Fail::new("no memory")),
+        Err(ReadError::Memory(error)) => Err(Fail::from(error)),
     }
 }
 

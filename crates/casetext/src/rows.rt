@@ -5,7 +5,7 @@ ghost use Rattle.casetext.specs.Case.{row_line, rows_lines, all_rows};
 ghost use Rattle.casetext.specs.Contents.{rows_of};
 
 use crate::case::Shares;
-use fields::{ReadError, keyed, list};
+use fields::{ReadError, keyed};
 use std::alloc::{AllocError, Global};
 use tally::check_rows;
 
@@ -13,11 +13,7 @@ use tally::check_rows;
 fn wide(heap: Global, numbers: &[u32]) -> Result<Vec<u64>, AllocError>
     ensures { IfOk result (λ v. v.items ≡ numbers.now) }
 {
-    let mut wide = Vec::new(heap);
-    for n in numbers {
-        wide.push(u64::from(*n))?;
-    }
-    Ok(wide)
+    numbers.iter().map(|n| u64::from(*n)).collect(heap)
 }
 
 // The numbers of the line that begins with `key`.
@@ -30,7 +26,7 @@ fn row<'a>(
     ensures { Reads (with_rest vec_items) result (row_line line key.now text.now) }
 {
     let (value, rest) = keyed(text, key, line)?;
-    let numbers = list(heap, value, line)?;
+    let numbers = value.list(heap)?;
     let row = wide(heap, &numbers)?;
     Ok((row, rest))
 }
@@ -43,10 +39,8 @@ fn shares(heap: Global, text: &[u8], line: usize, top: u8) -> Result<(Shares, &[
     let (up, rest) = row(heap, text, b"up=", line)?;
     let line = line + 1;
     let (down, rest) = row(heap, rest, b"down=", line)?;
-    match check_rows(top, &up, &down) {
-        Ok(()) => Ok((Shares { up, down }, rest)),
-        Err(refusal) => Err(ReadError::at(line, refusal)),
-    }
+    check_rows(top, &up, &down).map_err(|refusal| ReadError::at(line, refusal))?;
+    Ok((Shares { up, down }, rest))
 }
 
 /// The shares of the components with these tops, from line 6 on.
@@ -60,12 +54,10 @@ pub fn rows<'a>(
 {
     let mut all = Vec::new(heap);
     let mut left = text;
-    let mut line = 6;
-    for top in tops {
-        let (shares, rest) = shares(heap, left, line, *top)?;
+    for (i, top) in tops.iter().enumerate() {
+        let (shares, rest) = shares(heap, left, 6 + 2 * i, *top)?;
         all.push(shares)?;
         left = rest;
-        line += 2;
     }
     Ok((all, left))
 }

@@ -1,5 +1,5 @@
 -- Cutting a text: at a byte, and a line into its key and its value. Assumes nothing.
-use Rattle.std.specs.Prelude.{ℕ, cond, List, [], ◌∷◌, Some, None, Option, ◌==◌}
+use Rattle.std.specs.Prelude.{ℕ, if◌then◌else◌, List, [], ◌∷◌, Some, None, Option, ◌==◌}
 use Rattle.std.specs.Option.{option_map}
 
 -- a text in two parts
@@ -9,13 +9,13 @@ Halves = List ℕ × List ℕ
 -- the text before the first mark and the text after it, none where there is no mark
 abbrev pub cut : ℕ → List ℕ → Option Halves
 cut mark [] = None
-cut mark (b ∷ bs) = cond (b == mark) (Some ([], bs)) (option_map (λ h. (b ∷ h.0, h.1)) (cut mark bs))
+cut mark (b ∷ bs) = (if b == mark then Some ([], bs) else option_map (λ h. (b ∷ h.0, h.1)) (cut mark bs))
 
 -- what follows the front, none where the text begins otherwise
 abbrev pub after_front : List ℕ → List ℕ → Option (List ℕ)
 after_front [] bs = Some bs
 after_front (f ∷ fs) [] = None
-after_front (f ∷ fs) (b ∷ bs) = cond (b == f) (after_front fs bs) None
+after_front (f ∷ fs) (b ∷ bs) = (if b == f then after_front fs bs else None)
 
 -- the value of a line that begins with its key, beside the text after the line
 abbrev pub keyed : List ℕ → Option Halves → Option Halves

@@ -1,5 +1,5 @@
 -- The values of lines: a number, numbers split by commas, and a table's digits. Assumes nothing.
-use Rattle.std.specs.Prelude.{ℕ, ◌+◌, ◌-◌, ◌*◌, Bool, true, false, cond, not, ◌&&◌, List, [], ◌∷◌, map, length, Some, None, Option, ◌==◌, nat_le}
+use Rattle.std.specs.Prelude.{ℕ, ◌+◌, ◌-◌, ◌*◌, Bool, true, false, if◌then◌else◌, not, ◌&&◌, List, [], ◌∷◌, map, length, Some, None, Option, ◌==◌, nat_le}
 
 -- the test passes at every element
 abbrev pub every : {A : Type 0} → (A → Bool) → List A → Bool
@@ -23,7 +23,7 @@ number_of_digits = digits_after 0
 
 -- that number, where all bytes are digits and it is at most 4,294,967,295
 abbrev pub digits_in : ℕ → List ℕ → Option ℕ
-digits_in n bs = cond (every is_digit bs && nat_le (digits_after n bs) 4294967295) (Some (digits_after n bs)) None
+digits_in n bs = (if every is_digit bs && nat_le (digits_after n bs) 4294967295 then Some (digits_after n bs) else None)
 
 -- a zero before another byte
 abbrev pub leads_with_zero : List ℕ → Bool
@@ -38,7 +38,7 @@ is_number bs =
     && (every is_digit bs && nat_le (number_of_digits bs) 4294967295)
 
 abbrev pub number_in : List ℕ → Option ℕ
-number_in bs = cond (is_number bs) (Some (number_of_digits bs)) None
+number_in bs = (if is_number bs then Some (number_of_digits bs) else None)
 
 -- ## Numbers split by commas
 
@@ -50,11 +50,11 @@ onto b (p ∷ ps) = (b ∷ p) ∷ ps
 -- the pieces between the commas, one more than there are commas
 abbrev pub pieces : List ℕ → List (List ℕ)
 pieces [] = [] ∷ []
-pieces (b ∷ bs) = cond (b == 44) ([] ∷ pieces bs) (onto b (pieces bs))
+pieces (b ∷ bs) = (if b == 44 then [] ∷ pieces bs else onto b (pieces bs))
 
 -- every piece is a number
 abbrev pub numbers_in : List ℕ → Option (List ℕ)
-numbers_in bs = cond (every is_number (pieces bs)) (Some (map number_of_digits (pieces bs))) None
+numbers_in bs = (if every is_number (pieces bs) then Some (map number_of_digits (pieces bs)) else None)
 
 -- ## A table's digits
 
@@ -64,4 +64,4 @@ is_level b = nat_le 48 b && nat_le b 55
 
 -- every byte is a digit from 0 to 7
 abbrev pub levels_in : List ℕ → Option (List ℕ)
-levels_in bs = cond (every is_level bs) (Some (map (λ b. b - 48) bs)) None
+levels_in bs = (if every is_level bs then Some (map (λ b. b - 48) bs) else None)

@@ -9,7 +9,7 @@ use Rattle.fields.specs.Readings.{Reading, fault, read}
 -- an error is the reading's fault; where memory was wanting nothing more is said
 abbrev pub Stops : {A : Type 0} → ReadError → Reading A → Type 0
 Stops (Fault f) g = g ≡ fault (number_of f.refusal) f.line
-Stops Memory g = Unit {0}
+Stops (Memory _) g = Unit {0}
 
 -- a result is what the reading gives, with what it holds read by f
 abbrev pub Reads : {X A : Type 0} → (X → A) → Result X ReadError → Reading A → Type 0

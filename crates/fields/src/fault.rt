@@ -1,22 +1,22 @@
 // Why reading stops.
-ghost use Rattle.std.specs.Prelude.{◌≡◌};
+ghost use Rattle.std.specs.Prelude.{◌≡◌, alloc_error};
 ghost use Rattle.fields.specs.declared.fault.ReadError.TheVariants.{Memory};
 
 use std::alloc::{AllocError, AllocFailed};
 use structure::Refusal;
 
 /// What is wrong with a text, and the line where reading stopped; line 0 is the text as a whole.
-#[derive(Clone, Copy)]
+#[derive(Clone, Copy, Debug, PartialEq, Eq)]
 pub struct Fault {
     pub refusal: Refusal,
     pub line: usize,
 }
 
 /// Why no case was read: a fault of the text, or no memory for the case.
-#[derive(Drop)]
+#[derive(Clone, Copy, Debug, PartialEq, Eq)]
 pub enum ReadError {
     Fault(Fault),
-    Memory,
+    Memory(AllocError),
 }
 
 impl ReadError {
@@ -29,17 +29,17 @@ impl ReadError {
 }
 
 impl From<AllocError> for ReadError {
-    ghost from_gives = { λ _ r. r ≡ Memory };
+    ghost from_gives = { λ error r. r ≡ Memory error };
 
-    fn from(_e: AllocError) -> ReadError {
-        ReadError::Memory
+    fn from(error: AllocError) -> ReadError {
+        ReadError::Memory(error)
     }
 }
 
 impl<T: Drop> From<AllocFailed<T>> for ReadError {
-    ghost from_gives = { λ _ r. r ≡ Memory };
+    ghost from_gives = { λ _ r. r ≡ Memory alloc_error };
 
-    fn from(_e: AllocFailed<T>) -> ReadError {
-        ReadError::Memory
+    fn from(failed: AllocFailed<T>) -> ReadError {
+        ReadError::Memory(AllocError::from(failed))
     }
 }

@@ -8,4 +8,4 @@ mod numbers;
 mod values;
 
 pub use fault::{Fault, ReadError};
-pub use values::{keyed, levels, list, number};
+pub use values::{Value, keyed};

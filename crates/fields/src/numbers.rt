@@ -1,29 +1,33 @@
 // The values of lines: a number, numbers split by commas, and a table's digits.
-ghost use Rattle.std.specs.Prelude.{◌≡◌, ℕ, ◌-◌, ◌≤◌, IfOk, if◌then◌else◌, Some, None, vec_items};
-ghost use Rattle.fields.specs.Numbers.{is_digit, digits_in, number_in, numbers_in, is_level, levels_in};
+// Bytes are taken by slice patterns, the first and the rest: a fixed form of this project, so a loop walks what is left.
+ghost use Rattle.std.specs.Prelude.{◌≡◌, ℕ, ◌-◌, ◌&&◌, nat_le, IfOk, if◌then◌else◌, Some, None, vec_items};
+ghost use Rattle.fields.specs.Numbers.{digits_in, number_in, numbers_in, levels_in};
 ghost use Rattle.std.specs.Option.{option_map};
 
 use crate::cut::cut;
 use std::alloc::{AllocError, Global};
 
-/// The digit that a byte writes; none where it is no digit.
-fn digit(byte: u8) -> Option<u32>
-    ensures { result ≡ (if is_digit byte then Some (byte - 48) else None) }
+/// The digit that a byte from `0` to `last` writes; none where it is another byte.
+fn digit(byte: u8, last: u8) -> Option<u8>
+    ensures { result ≡ (if nat_le 48 byte && nat_le byte last then Some (byte - 48) else None) }
 {
-    match byte {
-        b'0'..=b'9' => Some(u32::from(byte - b'0')),
-        _ => None,
+    if byte < b'0' || byte > last {
+        None
+    } else {
+        Some(byte - b'0')
     }
 }
 
 /// The number that digits write; none where another byte stands among them or it has more than 32 bits.
+#[tactic(auto, using(crate::proofs::Digits::digits_after_least))]
 fn digits(text: &[u8]) -> Option<u32>
     ensures { result ≡ digits_in 0 text.now }
 {
     let mut left = text;
     let mut value: u32 = 0;
     while let [first, rest @ ..] = left {
-        value = value.checked_mul(10)?.checked_add(digit(*first)?)?;
+        let digit = digit(*first, b'9')?;
+        value = value.checked_mul(10)?.checked_add(u32::from(digit))?;
         left = rest;
     }
     Some(value)
@@ -41,6 +45,7 @@ pub fn number(text: &[u8]) -> Option<u32>
 }
 
 /// Numbers split by commas; none where a piece between commas is no number.
+#[tactic(auto, using(crate::proofs::Pieces::pieces_cut))]
 pub fn numbers(heap: Global, text: &[u8]) -> Result<Option<Vec<u32>>, AllocError>
     ensures { IfOk result (λ o. option_map vec_items o ≡ numbers_in text.now) }
 {
@@ -60,16 +65,6 @@ pub fn numbers(heap: Global, text: &[u8]) -> Result<Option<Vec<u32>>, AllocError
     Ok(Some(all))
 }
 
-/// The level that a byte writes; none where it is no digit from 0 to 7.
-fn level(byte: u8) -> Option<u8>
-    ensures { result ≡ (if is_level byte then Some (byte - 48) else None) }
-{
-    match byte {
-        b'0'..=b'7' => Some(byte - b'0'),
-        _ => None,
-    }
-}
-
 /// The levels that digits from 0 to 7 write; none where another byte stands among them.
 pub fn levels(heap: Global, text: &[u8]) -> Result<Option<Vec<u8>>, AllocError>
     ensures { IfOk result (λ o. option_map vec_items o ≡ levels_in text.now) }
@@ -77,7 +72,7 @@ pub fn levels(heap: Global, text: &[u8]) -> Result<Option<Vec<u8>>, AllocError>
     let mut all = Vec::new(heap);
     let mut left = text;
     while let [first, rest @ ..] = left {
-        let Some(level) = level(*first) else {
+        let Some(level) = digit(*first, b'7') else {
             return Ok(None);
         };
         all.push(level)?;

@@ -1,6 +1,11 @@
 //! The first five lines of a case text: components, best level, tops, tags and table.
 #![tactic(auto)]
 
-mod frame;
+mod counts;
+mod lists;
+mod table_line;
+mod within;
 
-pub use frame::{best, components, levels, tags, tops};
+pub use counts::{best, components};
+pub use lists::{tags, tops};
+pub use table_line::levels;

@@ -15,6 +15,6 @@ pub fn report(heap: Global, text: &[u8]) -> Result<String, AllocError>
     match read(heap, text) {
         Ok(case) => case_lines(heap, &case),
         Err(ReadError::Fault(fault)) => fault_lines(heap, fault),
-        Err(ReadError::Memory) => Err(AllocError),
+        Err(ReadError::Memory(error)) => Err(error),
     }
 }

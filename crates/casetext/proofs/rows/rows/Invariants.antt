@@ -1,11 +1,11 @@
-use Rattle.std.proofs.Common.{◌≡◌, ◌+◌, ◌*◌, map, drop, vec_items}
+use Rattle.std.proofs.Common.{◌≡◌, ◌+◌, ◌*◌, ◌++◌, map, drop, vec_items}
+use Rattle.fields.specs.Readings.{read, and_then}
 use Rattle.casetext.specs.Case.{all_rows}
 use Rattle.casetext.specs.Contents.{rows_of}
-use Rattle.casetext.proofs.AllRows.{with_rows}
 use Rattle.casetext.proofs.rows.rows.Given as goal
 
 -- the rows so far stand before those of the tops that are left
-abbrev pub invariant-loop-top : goal.invariant-loop-top
-invariant-loop-top l =
-    (l.line ≡ 6 + 2 * l.top-index)
-    × (all_rows 6 l.tops l.text ≡ with_rows (map rows_of (vec_items l.all)) (all_rows l.line (drop l.top-index l.tops) l.left))
+abbrev pub invariant-loop-i : goal.invariant-loop-i
+invariant-loop-i l =
+    all_rows 6 l.tops l.text
+    ≡ and_then (all_rows (6 + 2 * l.i) (drop l.i l.tops) l.left) (λ more. read (map rows_of (vec_items l.all) ++ more.0, more.1))
