@@ -1,12 +1,9 @@
 // Lines 3 and 4: tops and tags, one for each component.
-ghost use Rattle.std.specs.Prelude.{◌≡◌, ℕ, List, [], ◌∷◌, IfOk, if◌then◌else◌, Some, None, vec_items, vec_len};
+ghost use Rattle.std.specs.Prelude.{◌≡◌, ℕ, List, IfOk, if◌then◌else◌, Some, None, vec_items, vec_len};
 ghost use Rattle.std.specs.Option.{option_map};
 ghost use Rattle.structure.specs.Conditions.{any_outside};
-ghost use Rattle.structure.specs.Refusals.{first_refusal};
-ghost use Rattle.fields.specs.Numbers.{numbers_in};
-ghost use Rattle.fields.specs.Readings.{at_line, and_then, or_refuse};
 ghost use Rattle.fields.specs.Results.{Reads, with_rest};
-ghost use Rattle.frametext.specs.Frame.{another_count, tops_line, tags_line};
+ghost use Rattle.frametext.specs.Frame.{counted_list, tops_line, tags_line};
 
 use crate::within::within;
 use fields::{ReadError, Value, keyed};
@@ -15,7 +12,7 @@ use structure::{Refusal, vector_count};
 
 // The numbers of the value, one for each component.
 fn one_each(heap: Global, value: &Value, components: u8) -> Result<Vec<u32>, ReadError>
-    ensures { Reads vec_items result (and_then (at_line value.now.line (or_refuse 41 (numbers_in value.now.text.now))) (λ numbers. at_line value.now.line (first_refusal ((another_count components numbers, 11) ∷ []) numbers))) }
+    ensures { Reads vec_items result (counted_list value.now.line components value.now.text.now) }
 {
     let numbers = value.list(heap)?;
     if numbers.len() != components as usize {
@@ -24,8 +21,8 @@ fn one_each(heap: Global, value: &Value, components: u8) -> Result<Vec<u32>, Rea
     Ok(numbers)
 }
 
-// The same numbers as tops; none where one is outside 1 to 7. A loop: of options that are collected the proof does not
-// close, since `collect` does not say when it gives none.
+// The same numbers as tops; none where one is outside 1 to 7. A loop, since of a `collect` into an option the proof
+// does not close.
 fn narrow(heap: Global, numbers: &[u32]) -> Result<Option<Vec<u8>>, AllocError>
     ensures { IfOk result (λ o. option_map vec_items o ≡ (if any_outside 7 numbers.now then None else Some numbers.now)) }
 {
