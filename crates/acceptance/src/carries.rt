@@ -8,8 +8,6 @@ use structure::Structure;
 use study::{Study, Word};
 use table::Table;
 
-const D: u64 = 1_000_000_000;
-
 const SERIES: [u8; 4] = [0, 0, 0, 1];
 
 const PARALLEL: [u8; 4] = [0, 1, 1, 1];

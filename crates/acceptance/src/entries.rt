@@ -6,8 +6,6 @@ use structure::Structure;
 use study::{Study, Word};
 use table::Table;
 
-const D: u64 = 1_000_000_000;
-
 fn enters<S: Structure + Drop>(
     rt: &impl Abort,
     study: &mut Study<S>,

@@ -6,8 +6,6 @@ use std::test::Fail;
 use structure::Structure;
 use study::{Study, Word};
 
-const D: u64 = 1_000_000_000;
-
 // Checks the number of the refusal that a feed meets, none where it is accepted.
 fn meets(
     rt: &impl Abort,

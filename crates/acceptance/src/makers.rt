@@ -5,8 +5,6 @@ use std::test::Fail;
 use study::{Study, Word};
 use table::Table;
 
-const D: u64 = 1_000_000_000;
-
 // Level 1 may have the lower low: its cut figure takes the cut records as independent, which share components.
 #[test]
 fn a_radio_is_studied(rt: HostRuntime) -> Result<(), Fail> {

@@ -18,10 +18,9 @@ fn words_of_steps(rt: HostRuntime) -> Result<(), Fail> {
 
 #[test]
 fn eleven_end_full(rt: HostRuntime) -> Result<(), Fail> {
-    let mut levels = Vec::with_capacity(rt.alloc(), 2048)?;
-    for v in 0..2048u32 {
-        levels.push(if v.count_ones() >= 6 { 1u8 } else { 0u8 })?;
-    }
+    let levels: Vec<u8> = (0..2048u32)
+        .map(|v| u8::from(v.count_ones() >= 6))
+        .collect(rt.alloc())?;
     let mut study = Study::open(rt.alloc(), Table::new(&[1; 11], 1, &[0; 11], &levels))?;
     let (first, word) = study.step(100_000);
     assert_eq!(rt; word, Word::Full);

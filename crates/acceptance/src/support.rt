@@ -7,6 +7,9 @@ use structure::{Refusal, Structure};
 use study::{Study, Word};
 use table::Table;
 
+/// The whole, in billionths.
+pub(crate) const D: u64 = 1_000_000_000;
+
 pub(crate) const FOUR: [u8; 16] = [0, 0, 0, 0, 0, 1, 1, 2, 0, 1, 1, 2, 0, 2, 2, 3];
 
 /// The number of the refusal that a call meets; none where it is accepted.

@@ -19,8 +19,8 @@ const LINES: [&str; 9] = [
 // These lines with another in the place of one of them.
 fn changed(heap: Global, place: usize, other: &str) -> Result<Vec<u8>, AllocError> {
     let mut text = Vec::new(heap);
-    for (i, line) in LINES.iter().enumerate() {
-        let line = if i + 1 == place { other } else { *line };
+    for (number, line) in (1..=LINES.len()).zip(LINES) {
+        let line = if number == place { other } else { line };
         text.extend_from_slice(line.as_bytes())?;
         text.push(b'\n')?;
     }
@@ -39,9 +39,7 @@ fn outcome(heap: Global, text: &[u8]) -> Result<Option<(u8, usize)>, Fail> {
 #[test]
 fn reads_a_case(rt: HostRuntime) -> Result<(), Fail> {
     let text = changed(rt.alloc(), 0, "")?;
-    let Ok(case) = read(rt.alloc(), &text) else {
-        return Err(Fail::new("a fault"));
-    };
+    let case = read(rt.alloc(), &text)?;
     assert!(rt; case.tops.as_slice() == [1, 1].as_slice());
     assert_eq!(rt; case.best, 1);
     assert!(rt; case.tags.as_slice() == [7, 4294967295].as_slice());

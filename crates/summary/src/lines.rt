@@ -22,12 +22,7 @@ pub(crate) fn fault_lines(heap: Global, fault: Fault) -> Result<String, AllocErr
 pub(crate) fn search_line(heap: Global, word: Word) -> Result<String, AllocError>
     ensures { IfOk result (λ s. string_bytes s ≡ search_line (word_of word)) }
 {
-    let text = match word {
-        Word::Finished => "search=finished\n",
-        Word::Full => "search=full\n",
-        Word::Open => "search=open\n",
-    };
-    String::from_str(heap, text)
+    format!(in heap; "search={word}\n")
 }
 
 /// The figures of a level, with its path and cut records counted.
