@@ -1,11 +1,11 @@
 -- The levels one rank lower and one rank higher, asked of a structure component by component. Assumes nothing.
-use Rattle.std.proofs.Common.{◌≡◌, ℕ, ◌+◌, ◌-◌, ◌<◌, ◌≤◌, ◌⊎◌, ⊎_elim, min, max, Bool, true, false, cond, T, List, ◌∷◌, length, get_or, drop, set, Some, None, Option, sym, refl, ap, ◌∙◌, arith, length-drop}
+use Rattle.std.proofs.Common.{◌≡◌, ℕ, ◌+◌, ◌-◌, ◌<◌, ◌≤◌, ◌⊎◌, ⊎_elim, min, Bool, true, false, cond, T, List, ◌∷◌, length, get_or, drop, set, Some, None, Option, sym, refl, ap, ◌∙◌, arith, length-drop}
 use Rattle.std.proofs.lemmas.List.{drop_more}
 use Rattle.structure.specs.Shape.{Shape, within}
 use Rattle.structure.specs.Minimal.{highest_below, lowest_above}
 use Rattle.structure.specs.Questions.{level_if_within}
 use Rattle.structure.proofs.Places.{within_lower, within_raise}
-use Rattle.structure.proofs.Neighbourhood.{highest_to, lowest_to, highest_counts, highest_passes, lowest_counts, lowest_passes, highest_to_end, lowest_to_end}
+use Rattle.structure.proofs.Neighbourhood.{highest_to, lowest_to, lowest_counts, lowest_passes, highest_to_end, lowest_to_end}
 
 some_if : (b : Bool) (n : ℕ) → T b → cond b (Some n) None ≡ Some n
 some_if true n t = refl
@@ -20,16 +20,6 @@ module _ (s : Shape) (x : List ℕ) (i : ℕ) (here : T (within s.tops x)) where
 
   pub lower_answered : level_if_within s (set x i (get_or x i 0 - 1)) ≡ Some (s.level (set x i (get_or x i 0 - 1)))
   lower_answered = level_answered s (set x i (get_or x i 0 - 1)) (within_lower s.tops x i here)
-
-  -- a component with a lower rank, and one without
-  pub highest_more : (highest level : ℕ) (o : Option ℕ) → highest ≡ highest_to s.level x i → 0 < get_or x i 0 →
-      o ≡ level_if_within s (set x i (get_or x i 0 - 1)) → o ≡ Some level → max level highest ≡ highest_to s.level x (i + 1)
-  highest_more highest level o e h a b =
-      let l : level ≡ s.level (set x i (get_or x i 0 - 1)) = cc (lower_answered) in
-      omega (arith, l, highest_counts s.level x i h, e)
-
-  pub highest_same : (highest : ℕ) → highest ≡ highest_to s.level x i → get_or x i 0 ≤ 0 → highest ≡ highest_to s.level x (i + 1)
-  highest_same highest e h = e ∙ sym (highest_passes s.level x i h)
 
   -- ## Higher
 

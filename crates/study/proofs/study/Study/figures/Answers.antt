@@ -4,8 +4,5 @@ use Rattle.promise.proofs.Promised.{promised}
 use Rattle.study.specs.Model.{held, figures_in}
 use Rattle.study.proofs.study.Study.figures.Goals as goal
 
-pub returns : goal.returns
-returns g c = record {
-  answers = c.figures.ensures;
-  promise = promised (held c.args.self.now.ledger) c.args.level (answer_by figures_in c.figures.result) c.figures.ensures;
-}
+pub returns-clause-promise : goal.returns-clause-promise
+returns-clause-promise g c = promised (held c.args.self.now.ledger) c.args.level (answer_by figures_in c.figures.result) c.figures.ensures
