@@ -58,6 +58,7 @@ fn tops_of<S: Structure>(heap: Global, structure: &S) -> Result<Vec<u8>, AllocEr
 {
     let n = structure.components();
     let mut tops = Vec::with_capacity(heap, n)?;
+    // A loop: the proof does not know which numbers a collected `1..=n` yields.
     for component in 1..=n {
         tops.push(structure.top(component).unwrap_or(0))?;
     }

@@ -10,6 +10,7 @@ pub(crate) fn vector_of(tops: &[u8], number: usize) -> [u8; 12]
 {
     let mut vector = [0u8; 12];
     let mut left = number;
+    // By the place: what is written through a zipped mutable iterator is not known to the proof after the loop.
     for (i, top) in tops.iter().enumerate().rev() {
         let ranks = *top as usize + 1;
         vector[i] = (left % ranks) as u8;
