@@ -5,7 +5,7 @@ ghost use Rattle.study.specs.Model.{held};
 ghost use Rattle.study.specs.Examining.{FindsLevels, record_over, full_for, Lists, Examines};
 
 use crate::ledger::Ledger;
-use crate::neighbours::{highest_below, lowest_above};
+use crate::neighbours::Vector;
 use crate::vectors::vector_of;
 use structure::Structure;
 use tally::Record;
@@ -45,13 +45,12 @@ fn list_over(list: &mut Vec<Record>, vector: [u8; 12], under: u8, last: u8)
 
 impl Ledger {
     // Asks the structure about a vector; none where it does not answer.
-    fn levels<S: Structure>(&self, structure: &S, vector: &[u8]) -> Option<Levels>
-        requires { length vector.now ≤ 12 }
-        ensures { FindsLevels (S.Structure.shape structure.now) self.now.tops.items self.now.best vector.now result }
+    fn levels<S: Structure>(&self, structure: &S, vector: Vector<'_>) -> Option<Levels>
+        ensures { FindsLevels (S.Structure.shape structure.now) self.now.tops.items self.now.best vector.entry.ranks.now result }
     {
-        let level = structure.level(vector)?;
-        let below = highest_below(structure, vector)?;
-        let above = lowest_above(structure, &self.tops, self.best, vector)?;
+        let level = structure.level(vector.ranks)?;
+        let below = vector.highest_below(structure)?;
+        let above = vector.lowest_above(structure, &self.tops, self.best)?;
         Some(Levels {
             level,
             below,
@@ -84,7 +83,8 @@ impl Ledger {
         ensures counts { IsSome result → self.new.examined ≡ self.old.examined + 1 }
     {
         let vector = vector_of(&self.tops, self.examined);
-        let levels = self.levels(structure, &vector[..self.tops.len()])?;
+        let ranks = &vector[..self.tops.len()];
+        let levels = self.levels(structure, Vector { ranks })?;
         self.list(vector, levels)
     }
 }

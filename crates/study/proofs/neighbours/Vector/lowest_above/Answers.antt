@@ -4,12 +4,12 @@ use Rattle.std.specs.Iterator.Adapters.{enumerate_count}
 use Rattle.structure.specs.Questions.{level_if_within}
 use Rattle.structure.proofs.Below.{length_within}
 use Rattle.study.proofs.Near.{turn, left_none, upper_answered, lowest_more, lowest_same, lowest_found}
-use Rattle.study.proofs.neighbours.lowest_above.Goals as goal
+use Rattle.study.proofs.neighbours.Vector.lowest_above.Goals as goal
 
 pub returns-in_err-level : goal.returns-in_err-level
 returns-in_err-level g c tops best here =
     let s = g.S.Structure.shape c.args.structure.now in
-    let v = c.args.vector.now in
+    let v = c.args.self.now.ranks.now in
     let p = c.in-Some.ensures.steps in
     let t = turn _ _ _ _ _ c.loop-i.invariant.left p.0.0 p.0.1 p.2 in
     let i = c.in-Some.i in
@@ -22,7 +22,7 @@ returns-in_err-level g c tops best here =
 pub loop-i-preserved : goal.loop-i-preserved
 loop-i-preserved g c =
     let s = g.S.Structure.shape c.args.structure.now in
-    let v = c.args.vector.now in
+    let v = c.args.self.now.ranks.now in
     let p = c.in-Some.ensures.steps in
     let t = turn _ _ _ _ _ c.loop-i.invariant.left p.0.0 p.0.1 p.2 in
     let i = enumerate_count c.loop-i.i-iterator in
@@ -37,7 +37,7 @@ loop-i-preserved g c =
 pub loop-i-preserved-then-rank-top : goal.loop-i-preserved-then-rank-top
 loop-i-preserved-then-rank-top g c =
     let s = g.S.Structure.shape c.args.structure.now in
-    let v = c.args.vector.now in
+    let v = c.args.self.now.ranks.now in
     let p = c.in-Some.ensures.steps in
     let t = turn _ _ _ _ _ c.loop-i.invariant.left p.0.0 p.0.1 p.2 in
     let i = enumerate_count c.loop-i.i-iterator in
@@ -54,6 +54,6 @@ loop-i-preserved-then-rank-top g c =
 pub returns : goal.returns
 returns g c tops best here =
     let s = g.S.Structure.shape c.args.structure.now in
-    let long = length_within s.tops c.args.vector.now here in
+    let long = length_within s.tops c.args.self.now.ranks.now here in
     let e = left_none _ _ _ _ _ c.loop-i.invariant.left (long ∙ ap length (sym tops)) (⊎_elim (λ (u, h). inl h.0) (λ (u, h). inr h.0) c.in-None.ensures.steps.0) in
-    ap Some (lowest_found s c.args.vector.now _ c.args.best c.loop-i.lowest (e ∙ ap length tops) long best (c.loop-i.invariant.lowest tops here))
+    ap Some (lowest_found s c.args.self.now.ranks.now _ c.args.best c.loop-i.lowest (e ∙ ap length tops) long best (c.loop-i.invariant.lowest tops here))
