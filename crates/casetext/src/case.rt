@@ -9,6 +9,7 @@ pub struct Shares {
 }
 
 /// A table of levels, with the tops and tags of its components, and each component's shares.
+// Lists side by side, since a table borrows the tops, the tags and the levels as slices.
 #[derive(Debug, Drop)]
 pub struct Case {
     pub tops: Vec<u8>,

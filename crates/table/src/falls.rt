@@ -8,6 +8,7 @@ pub(crate) fn some_fall(tops: &[u8], levels: &[u8]) -> bool
     requires { length levels.now ≡ vector_count tops.now }
     ensures { result ≡ falls tops.now levels.now }
 {
+    // Nested loops left by a label are a fixed form of this project; the number is computed with, and not only looked up by.
     'vectors: {
         for number in 0..levels.len() {
             let mut stride = levels.len();

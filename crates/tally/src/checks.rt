@@ -9,6 +9,7 @@ use share::WHOLE;
 use structure::{Refusal, any_fall, any_over, any_rise};
 
 /// Whether these can be the rows of a component with this top, or the first reason why not.
+// The two rows stay apart, as `enter` takes them: a struct would be made at each call only to be taken apart.
 pub fn check_rows(top: u8, up: &[u64], down: &[u64]) -> Result<(), Refusal>
     ensures { verdict result ≡ judged (row_tests top (record { up = up.entry.now; down = down.now })) }
 {

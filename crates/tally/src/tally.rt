@@ -46,6 +46,7 @@ pub fn tally_level(
     let mut best = Share::none();
     let mut all = Share::whole();
     let mut count: usize = 0;
+    // One loop over the listed records is a fixed form of this project; a chain for each of the three would ask `covers` thrice.
     for entry in records {
         if entry.covers(level) {
             best = best.larger(share_of_all(rows, &entry.vector, best_by));
