@@ -1,6 +1,7 @@
 -- What it says that two structures fit. Assumes nothing.
 use Rattle.std.specs.Prelude.{◌≡◌, ℕ, ◌+◌, ◌≤◌, Bool, true, false, List, [], ◌∷◌, ◌++◌, length, ◌==◌, nat_le, refl}
-use Rattle.std.proofs.Common.{arith, sym, ap}
+use Rattle.std.proofs.Common.{arith, sym, ap, ◌∙◌}
+use Rattle.std.proofs.lemmas.List.{length-append}
 use Rattle.std.proofs.lemmas.Bool.{cond-true, cond-false, not-false, leb-true, eqb-true}
 use Rattle.structure.specs.Shape.{Shape, vector_count}
 use Rattle.structure.specs.Refusals.{given, accepted, first_refusal}
@@ -59,3 +60,8 @@ module _ (a b : Shape) (s : Size) (e : given s ≡ measured a b) where
   -- its front has the components of the first
   pub front_given : s.front ≡ length a.tops
   front_given = ap (λ z. z.front) measured_given.0
+
+  pub components_given : (j : Join) → s.components ≡ length (paired j a b).tops
+  components_given j =
+      ap (λ z. z.components) measured_given.0 ∙ sym (length-append a.tops b.tops)
+      ∙ sym (ap (λ z. length z.tops) (shape_fit a b fit_given j))
