@@ -1,12 +1,11 @@
 -- Examining the next vector, from what the structure answers and what is listed. Assumes nothing.
-use Rattle.std.proofs.Common.{◌≡◌, ℕ, ◌<◌, Bool, true, false, cond, not, T, List, length, take, Some, None, vec_items, vec_len, Option, sym, refl, ap, ◌∙◌, subst, arith}
+use Rattle.std.proofs.Common.{◌≡◌, ℕ, ◌<◌, Bool, true, false, cond, not, T, List, length, take, Some, None, Option, sym, refl, ap, ◌∙◌, subst, ap₂, arith}
 use Rattle.structure.specs.Shape.{Shape, within, vector_count}
 use Rattle.structure.specs.Order.{vector_of}
 use Rattle.structure.proofs.Numbers.{vector_of_number, vector_within}
 use Rattle.promise.specs.Held.{Held}
 use Rattle.promise.specs.Calls.{Searches}
 use Rattle.promise.specs.Further.{next_vector, no_room, one_further}
-use Rattle.study.specs.declared.ledger.Ledger.{Ledger}
 use Rattle.study.specs.declared.examine.Levels.{Levels}
 use Rattle.study.specs.Examining.{levels_of, FindsLevels, full_at, with_listed, Lists, Keeps, Examines}
 
@@ -26,12 +25,11 @@ module _ (s : Shape) (h : Held) (at : Searches s h) (more : h.examined < h.vecto
       (vector_within s.tops h.examined inside)
 
 -- the vector that the code makes of the next number
-pub vector_made : (t : Ledger) (tops v : List ℕ) → tops ≡ vec_items t.tops → length tops ≡ vec_len t.tops → t.examined < t.vectors →
-    (t.examined < vector_count tops → take (length tops) v ≡ vector_of tops t.examined) →
-    take (vec_len t.tops) v ≡ vector_of (vec_items t.tops) t.examined
-vector_made t tops v e n more made =
-    let low : t.examined < vector_count tops = rw e (omega (arith, t.counted)) in
-    ap (λ k. take k v) (sym n) ∙ made low ∙ ap (λ ts. vector_of ts t.examined) e
+pub vector_made : (h : Held) (tops v : List ℕ) (k : ℕ) → tops ≡ h.tops → k ≡ h.examined → h.vectors ≡ vector_count h.tops → h.examined < h.vectors →
+    (k < vector_count tops → take (length tops) v ≡ vector_of tops k) → take (length h.tops) v ≡ vector_of h.tops h.examined
+vector_made h tops v k e f counted more made =
+    let low : k < vector_count tops = rw e (omega (arith, counted)) in
+    ap (λ ts. take (length ts) v) (sym e) ∙ made low ∙ ap₂ vector_of e f
 
 -- ## What the structure answers of it
 

@@ -1,5 +1,5 @@
 -- The figures of a level from the tallies of the two lists that a ledger holds. Assumes nothing.
-use Rattle.std.proofs.Common.{◌≡◌, ℕ, ◌≤◌, Bool, true, false, cond, List, map, length, vec_items, vec_len, Option, unwrap_or, sym, ap, ◌∙◌, ap₂, arith}
+use Rattle.std.proofs.Common.{◌≡◌, ℕ, ◌≤◌, Bool, true, false, cond, List, map, length, Option, unwrap_or, sym, ap, ◌∙◌, ap₂, arith}
 use Rattle.std.proofs.lemmas.Bool.Decides.{nat_tests}
 use Rattle.std.specs.Bool.{then_some}
 use Rattle.std.specs.Option.{option_map}
@@ -10,32 +10,30 @@ use Rattle.structure.specs.Refusals.{refused, given}
 use Rattle.promise.specs.Figures.{of_level, shares_at, better, best_of, all_of}
 use Rattle.promise.specs.Use.{Figures}
 use Rattle.tally.specs.Model.{rows_of, entry_of, reading_of, shares_by, entries_at}
-use Rattle.study.specs.Model.{held}
 use Rattle.tally.specs.declared.row.Row.{Row}
 use Rattle.tally.specs.declared.record.Record.{Record}
-use Rattle.study.specs.declared.ledger.Ledger.{Ledger}
 use Rattle.tally.specs.declared.reading.Reading.{Reading}
 
--- the ledger's rows, and one of its lists, as slices
-module _ (t : Ledger) (level : ℕ) {rows : List Row} {slice records : List Record}
-    (is-rows : rows ≡ vec_items t.rows) (long : length rows ≡ vec_len t.rows) (is-records : slice ≡ records) where
+-- the rows of n components, and one of the lists, as slices
+module _ (n : ℕ) (all-rows : List Row) (level : ℕ) {rows : List Row} {slice records : List Record}
+    (is-rows : rows ≡ all-rows) (long : length rows ≡ n) (is-records : slice ≡ records) where
   -- the entries of the level
   abbrev entries : List Entry
-  entries = of_level level (map (entry_of (vec_len t.tops)) records)
+  entries = of_level level (map (entry_of n) records)
 
   pub held_entries : entries_at level rows slice ≡ entries
-  held_entries = ap₂ (λ n rs. of_level level (map (entry_of n) rs)) (long ∙ t.sized) is-records
+  held_entries = ap₂ (λ k rs. of_level level (map (entry_of k) rs)) long is-records
 
   held_by : (of : (List ℕ → List ℕ) → List Entry → ℕ) (reading : Reading) → of (shares_by reading rows) (entries_at level rows slice) ≡
-      of (shares_at (reading_of reading) (held t).rows) entries
+      of (shares_at (reading_of reading) (map rows_of all-rows)) entries
   held_by of reading = ap₂ (λ rs es. of (shares_at (reading_of reading) (map rows_of rs)) es) is-rows held_entries
 
   pub held_best : (reading : Reading) (a : ℕ) → a ≡ best_of rounded (shares_by reading rows) (entries_at level rows slice) →
-      a ≡ best_of rounded (shares_at (reading_of reading) (held t).rows) entries
+      a ≡ best_of rounded (shares_at (reading_of reading) (map rows_of all-rows)) entries
   held_best reading a e = e ∙ held_by (best_of rounded) reading
 
   pub held_all : (reading : Reading) → all_of rounded (shares_by reading rows) (entries_at level rows slice) ≡
-      all_of rounded (shares_at (reading_of reading) (held t).rows) entries
+      all_of rounded (shares_at (reading_of reading) (map rows_of all-rows)) entries
   held_all reading = held_by (all_of rounded) reading
 
 -- all vectors at once, asked for only where finished

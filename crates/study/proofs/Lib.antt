@@ -1,5 +1,4 @@
 -- The lemmas of the crate, each file after those that it uses.
-mod Entering
 mod Carrying
 mod Opening
 mod FromTallies

@@ -1,26 +1,17 @@
--- The ledger with one of its rows changed. Assumes nothing.
-use Rattle.std.specs.Prelude.{ℕ}
-use Rattle.std.specs.Vec.{with_item}
-use Rattle.tally.specs.declared.row.Row.{Row}
-use Rattle.study.specs.declared.ledger.Ledger.{Ledger}
+-- What is held with the rows of one component changed. Assumes nothing.
+use Rattle.std.specs.Prelude.{ℕ, slice_set}
+use Rattle.promise.specs.Figures.{Rows}
+use Rattle.promise.specs.Held.{Held}
 
--- with the row w at this place, counted from 0, and everything else as it was
-abbrev pub with_row_at : Ledger → ℕ → Row → Ledger
-with_row_at t place w = record {
-  tops = t.tops;
-  best = t.best;
-  vectors = t.vectors;
-  rows = with_item t.rows place w;
-  examined = t.examined;
-  finished = t.finished;
-  paths = t.paths;
-  cuts = t.cuts;
-  few = t.few;
-  low = t.low;
-  counted = t.counted;
-  countable = t.countable;
-  sized = t.sized;
-  seen = t.seen;
-  room = t.room;
-  listed = t.listed;
+-- with the rows r at this place, counted from 0, and everything else as it was
+abbrev pub with_row_at : Held → ℕ → Rows → Held
+with_row_at h place r = record {
+  tops = h.tops;
+  best = h.best;
+  vectors = h.vectors;
+  rows = slice_set h.rows place r;
+  examined = h.examined;
+  finished = h.finished;
+  paths = h.paths;
+  cuts = h.cuts;
 }

@@ -1,26 +1,11 @@
--- What the values of the code stand for: the ledger, words and answers. Assumes nothing.
-use Rattle.std.specs.Prelude.{ℕ, List, map, vec_items, vec_len}
+-- What the values of the code stand for: words, lists and answers. Assumes nothing.
+use Rattle.std.specs.Prelude.{ℕ, List}
 use Rattle.promise.specs.Use.{Word, finished, full, still_open, Side, path_list, cut_list, Figures}
 use Rattle.promise.specs.Held.{Held, first_held}
-use Rattle.tally.specs.Model.{rows_of, entry_of}
-use Rattle.study.specs.declared.ledger.Ledger.{Ledger}
 use Rattle.study.specs.declared.side.Side.TheVariants.{Paths, Cuts}
 use Rattle.study.specs.declared.side.Side.{Side as ListSide}
 use Rattle.study.specs.declared.word.Word.TheVariants.{Finished, Full, Open}
 use Rattle.study.specs.declared.word.Word.{Word as StepWord}
-
--- what the ledger holds
-abbrev pub held : Ledger → Held
-held t = record {
-  tops = vec_items t.tops;
-  best = t.best;
-  vectors = t.vectors;
-  rows = map rows_of (vec_items t.rows);
-  examined = t.examined;
-  finished = t.finished;
-  paths = map (entry_of (vec_len t.tops)) (vec_items t.paths);
-  cuts = map (entry_of (vec_len t.tops)) (vec_items t.cuts);
-}
 
 -- how a step ended
 abbrev pub word_of : StepWord → Word

@@ -5,7 +5,6 @@ ghost use Rattle.structure.specs.Refusals.{verdict};
 ghost use Rattle.promise.specs.Held.{figures_from, carried_from};
 ghost use Rattle.promise.specs.Calls.{Carries};
 ghost use Rattle.tally.specs.Model.{rows_of};
-ghost use Rattle.study.specs.Model.{held};
 
 use crate::ledger::Ledger;
 use crate::study::Study;
@@ -17,8 +16,8 @@ impl Ledger {
     // Of a level that there is: low, and the whole less high.
     fn enclosed(&self, level: u8) -> (Share, Share)
         requires { (1 ≤ level) × (level ≤ self.now.best) }
-        ensures up { result.0 ≡ (figures_from (held self.now) level).low }
-        ensures down { result.1 ≡ D - (figures_from (held self.now) level).high }
+        ensures up { result.0 ≡ (figures_from self.now level).low }
+        ensures down { result.1 ≡ D - (figures_from self.now level).high }
     {
         let (low, high, _, _) = self.figures(level).unwrap();
         (low, high.rest())
@@ -27,7 +26,7 @@ impl Ledger {
     // The rows that a carry of this study sets: for each level low, and the whole less high.
     fn carried_rows(&self) -> Row
         requires { self.now.best ≤ 7 }
-        ensures { rows_of result ≡ carried_from (held self.now) }
+        ensures { rows_of result ≡ carried_from self.now }
     {
         let mut up = [Share::none(); 7];
         let mut down = [Share::none(); 7];
@@ -41,7 +40,7 @@ impl Ledger {
 
     // Sets a component's two rows to the figures of a module, or refuses and changes nothing.
     pub(crate) fn carry(&mut self, component: usize, part: &Ledger) -> Result<(), Refusal>
-        ensures { Carries (held self.old) component (held part.now) (verdict result) (held self.new) }
+        ensures { Carries self.old component part.now (verdict result) self.new }
     {
         if component < 1 || component > self.tops.len() {
             return Err(Refusal::Component);
@@ -66,7 +65,7 @@ impl<S: Structure + Drop> Study<S> {
         component: usize,
         part: &Study<N>,
     ) -> Result<(), Refusal>
-        ensures carries { Carries (held self.old.ledger) component (held part.now.ledger) (verdict result) (held self.new.ledger) }
+        ensures carries { Carries self.old.ledger component part.now.ledger (verdict result) self.new.ledger }
         ensures same { self.new.structure ≡ self.old.structure }
     {
         self.ledger.carry(component, &part.ledger)

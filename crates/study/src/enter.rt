@@ -1,10 +1,10 @@
 // Entering shares.
-ghost use Rattle.std.specs.Prelude.{◌≡◌, ◌<◌, vec_len};
-ghost use Rattle.std.specs.Borrow.{sem, follows};
+ghost use Rattle.std.specs.Prelude.{◌≡◌, ◌<◌, length};
+ghost use Rattle.std.specs.Borrow.{sem, Lends};
 ghost use Rattle.structure.specs.Refusals.{verdict};
 ghost use Rattle.promise.specs.Calls.{Enters};
-ghost use Rattle.study.specs.Model.{held};
 ghost use Rattle.study.specs.Changes.{with_row_at};
+ghost use Rattle.tally.specs.Model.{rows_of};
 ghost use Rattle.study.specs.contracts.ledger.Ledger.{the_row as ledger-row};
 ghost use Rattle.tally.specs.contracts.row.Row.{the_row as row-row};
 
@@ -16,8 +16,8 @@ use tally::Row;
 impl Ledger {
     // Lends the row of the component at this place, counted from 0, to be rewritten whole.
     pub(crate) fn row(&mut self, place: usize) -> &mut Row
-        requires { place < vec_len self.old.rows }
-        ensures* { sem 𝓛 (follows ledger-row row-row self.entry.ghost_name result.ghost_name (with_row_at self.old place)) }
+        requires { place < length self.old.rows }
+        ensures* { sem 𝓛 (Lends ledger-row row-row self.entry result (λ w. with_row_at self.old place (rows_of w))) }
     {
         &mut self.rows[place]
     }
@@ -29,7 +29,7 @@ impl Ledger {
         up: &[u64],
         down: &[u64],
     ) -> Result<(), Refusal>
-        ensures { Enters (held self.old) component (record { up = up.entry.now; down = down.now }) (verdict result) (held self.new) }
+        ensures { Enters self.old component (record { up = up.entry.now; down = down.now }) (verdict result) self.new }
     {
         if component < 1 || component > self.tops.len() {
             return Err(Refusal::Component);
@@ -43,7 +43,7 @@ impl Ledger {
 impl<S: Structure + Drop> Study<S> {
     /// Replaces a component's two rows whole, or refuses and leaves the study as it was.
     pub fn enter(&mut self, component: usize, up: &[u64], down: &[u64]) -> Result<(), Refusal>
-        ensures enters { Enters (held self.old.ledger) component (record { up = up.entry.now; down = down.now }) (verdict result) (held self.new.ledger) }
+        ensures enters { Enters self.old.ledger component (record { up = up.entry.now; down = down.now }) (verdict result) self.new.ledger }
         ensures same { self.new.structure ≡ self.old.structure }
     {
         self.ledger.enter(component, up, down)

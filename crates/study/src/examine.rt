@@ -1,7 +1,6 @@
 // Examining one vector.
 ghost use Rattle.std.specs.Prelude.{◌≡◌, ◌<◌, ◌≤◌, false, IsSome, ◌+◌, ◌++◌, length, take, vec_len, vec_capacity};
 ghost use Rattle.std.specs.Option.{is_some};
-ghost use Rattle.study.specs.Model.{held};
 ghost use Rattle.study.specs.Examining.{FindsLevels, record_over, full_for, Lists, Examines};
 
 use crate::ledger::Ledger;
@@ -46,7 +45,7 @@ fn list_over(list: &mut Vec<Record>, vector: [u8; 12], under: u8, last: u8)
 impl Ledger {
     // Asks the structure about a vector; none where it does not answer.
     fn levels<S: Structure>(&self, structure: &S, vector: Vector<'_>) -> Option<Levels>
-        ensures { FindsLevels (S.Structure.shape structure.now) self.now.tops.items self.now.best vector.entry.ranks.now result }
+        ensures { FindsLevels (S.Structure.shape structure.now) self.now.tops self.now.best vector.entry.ranks.now result }
     {
         let level = structure.level(vector.ranks)?;
         let below = vector.highest_below(structure)?;
@@ -62,7 +61,7 @@ impl Ledger {
     // needs one is full.
     fn list(&mut self, vector: [u8; 12], levels: Levels) -> Option<()>
         requires { self.old.examined < self.old.vectors }
-        ensures { Lists (held self.old) (take (vec_len self.old.tops) vector) levels (is_some result) (held self.new) }
+        ensures { Lists self.old (take (length self.old.tops) vector) levels (is_some result) self.new }
     {
         let paths_full = is_full(&self.paths, levels.below, levels.level);
         let cuts_full = is_full(&self.cuts, levels.level, levels.above);
@@ -79,7 +78,7 @@ impl Ledger {
     // structure does not answer.
     pub(crate) fn examine<S: Structure>(&mut self, structure: &S) -> Option<()>
         requires { self.old.examined < self.old.vectors }
-        ensures examines { Examines (S.Structure.shape structure.now) (held self.old) (is_some result) (held self.new) }
+        ensures examines { Examines (S.Structure.shape structure.now) self.old (is_some result) self.new }
         ensures counts { IsSome result → self.new.examined ≡ self.old.examined + 1 }
     {
         let vector = vector_of(&self.tops, self.examined);

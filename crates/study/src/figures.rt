@@ -4,7 +4,7 @@ ghost use Rattle.share.specs.Shares.{rounded};
 ghost use Rattle.structure.specs.Refusals.{answer_by};
 ghost use Rattle.promise.specs.Calls.{Answers};
 ghost use Rattle.promise.specs.Promise.{Promised};
-ghost use Rattle.study.specs.Model.{held, figures_in};
+ghost use Rattle.study.specs.Model.{figures_in};
 
 use crate::ledger::Ledger;
 use crate::study::Study;
@@ -15,7 +15,7 @@ use tally::{Reading, tally_level};
 impl Ledger {
     // The figures of a level with its path and cut records counted.
     pub(crate) fn figures(&self, level: u8) -> Result<(Share, Share, usize, usize), Refusal>
-        ensures { Answers (held self.now) level (answer_by figures_in result) }
+        ensures { Answers self.now level (answer_by figures_in result) }
     {
         if level < 1 || level > self.best {
             return Err(Refusal::Level);
@@ -50,8 +50,8 @@ fn better(alone: Share, together: Option<Share>) -> Share
 impl<S: Structure + Drop> Study<S> {
     /// The low and the high figure of a level, with its path and cut records counted.
     pub fn figures(&self, level: u8) -> Result<(Share, Share, usize, usize), Refusal>
-        ensures answers { Answers (held self.now.ledger) level (answer_by figures_in result) }
-        ensures promise { Promised (held self.now.ledger) level (answer_by figures_in result) }
+        ensures answers { Answers self.now.ledger level (answer_by figures_in result) }
+        ensures promise { Promised self.now.ledger level (answer_by figures_in result) }
     {
         self.ledger.figures(level)
     }

@@ -1,7 +1,5 @@
 // The plain inner table of a study.
-ghost use Rattle.std.specs.Prelude.{◌≡◌, ℕ, ◌<◌, ◌≤◌, vec_len, vec_capacity, slice_index};
-ghost use Rattle.structure.specs.Shape.{vector_count};
-
+use std::marker::Model;
 use tally::{Record, Row};
 
 // What a study holds beside its structure. The tops, the best level and the number of vectors are the structure's, kept
@@ -17,12 +15,35 @@ pub struct Ledger {
     pub(crate) finished: bool,
     pub(crate) paths: Vec<Record>,
     pub(crate) cuts: Vec<Record>,
-    ghost few: { vec_len tops ≤ 12 },
-    ghost low: { (k : ℕ) → k < vec_len tops → slice_index tops.items k ≤ 7 },
-    ghost counted: { vectors ≡ vector_count tops.items },
-    ghost countable: { vectors ≤ 65536 },
-    ghost sized: { vec_len rows ≡ vec_len tops },
-    ghost seen: { examined ≤ vectors },
-    ghost room: { (256 ≤ vec_capacity paths) × (256 ≤ vec_capacity cuts) },
-    ghost listed: { (vec_len paths ≤ 256) × (vec_len cuts ≤ 256) },
+}
+
+impl Model for Ledger {
+    ghost use Rattle.std.specs.Prelude.{◌≡◌, ℕ, ◌<◌, ◌≤◌, map, vec_items, vec_len, vec_capacity, slice_index};
+    ghost use Rattle.structure.specs.Shape.{vector_count};
+    ghost use Rattle.promise.specs.Held.{Held};
+    ghost use Rattle.tally.specs.Model.{rows_of, entry_of};
+
+    ghost Value = { Held };
+
+    ghost view = { λ t. record {
+      tops = vec_items t.tops;
+      best = t.best;
+      vectors = t.vectors;
+      rows = map rows_of (vec_items t.rows);
+      examined = t.examined;
+      finished = t.finished;
+      paths = map (entry_of (vec_len t.tops)) (vec_items t.paths);
+      cuts = map (entry_of (vec_len t.tops)) (vec_items t.cuts);
+    } };
+
+    ghost invariant = { λ t. record {
+      few : vec_len t.tops ≤ 12;
+      low : (k : ℕ) → k < vec_len t.tops → slice_index t.tops.items k ≤ 7;
+      counted : t.vectors ≡ vector_count t.tops.items;
+      countable : t.vectors ≤ 65536;
+      sized : vec_len t.rows ≡ vec_len t.tops;
+      seen : t.examined ≤ t.vectors;
+      room : (256 ≤ vec_capacity t.paths) × (256 ≤ vec_capacity t.cuts);
+      listed : (vec_len t.paths ≤ 256) × (vec_len t.cuts ≤ 256);
+    } };
 }

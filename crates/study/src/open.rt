@@ -4,7 +4,7 @@ ghost use Rattle.promise.specs.Figures.{no_shares};
 ghost use Rattle.promise.specs.Calls.{Opens};
 ghost use Rattle.structure.specs.Shape.{vector_count};
 ghost use Rattle.tally.specs.Model.{rows_of};
-ghost use Rattle.study.specs.Model.{held, fresh};
+ghost use Rattle.study.specs.Model.{fresh};
 
 use crate::ledger::Ledger;
 use crate::study::Study;
@@ -17,7 +17,7 @@ const MOST_RECORDS: usize = 256;
 impl<S: Structure + Drop> Study<S> {
     /// Opens a study: all shares 0, no records, no vector examined. The one call that asks for memory.
     pub fn open(heap: Global, structure: S) -> Result<Study<S>, AllocError>
-        ensures opens { IfOk result (λ t. Opens (S.Structure.shape structure) (held t.ledger)) }
+        ensures opens { IfOk result (λ t. Opens (S.Structure.shape structure) t.ledger) }
         ensures kept { IfOk result (λ t. t.structure ≡ structure) }
     {
         let tops = tops_of(heap, &structure)?;
@@ -32,7 +32,7 @@ impl Ledger {
         requires few { vec_len tops ≤ 12 }
         requires low { (k : ℕ) → k < vec_len tops → slice_index tops.items k ≤ 7 }
         requires countable { vector_count tops.items ≤ 65536 }
-        ensures { IfOk result (λ t. held t ≡ fresh tops.items best) }
+        ensures { IfOk result (λ t. t ≡ fresh tops.items best) }
     {
         let vectors = vector_count(&tops).unwrap();
         let rows = zero_rows(heap, &tops)?;

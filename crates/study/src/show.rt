@@ -1,10 +1,10 @@
 // Showing a record.
-ghost use Rattle.std.specs.Prelude.{◌≡◌, map, vec_len};
+ghost use Rattle.std.specs.Prelude.{◌≡◌, map, length};
 ghost use Rattle.structure.specs.Refusals.{answer_by};
 ghost use Rattle.promise.specs.Calls.{list_of, Shows};
 ghost use Rattle.promise.specs.Shown.{Shown};
 ghost use Rattle.tally.specs.Model.{entry_of};
-ghost use Rattle.study.specs.Model.{held, side_of};
+ghost use Rattle.study.specs.Model.{side_of};
 
 use crate::ledger::Ledger;
 use crate::side::Side;
@@ -15,7 +15,7 @@ use tally::Record;
 impl Ledger {
     // The records of one list.
     fn records(&self, side: Side) -> &[Record]
-        ensures { map (entry_of (vec_len self.now.tops)) result.now ≡ list_of (held self.now) (side_of side) }
+        ensures { map (entry_of (length self.now.tops)) result.now ≡ list_of self.now (side_of side) }
     {
         match side {
             Side::Paths => self.paths.as_slice(),
@@ -31,7 +31,7 @@ impl Ledger {
         number: usize,
         row: &mut [u8],
     ) -> Result<(u8, u8), Refusal>
-        ensures { Shows (held self.now) (side_of side) number row.old (answer_by (λ levels. levels) result) row.new }
+        ensures { Shows self.now (side_of side) number row.old (answer_by (λ levels. levels) result) row.new }
     {
         let records = self.records(side);
         if number < 1 || number > records.len() {
@@ -50,8 +50,8 @@ impl<S: Structure + Drop> Study<S> {
     /// Writes the vector of a record, counted from 1, into the row, and answers the record's first and last level; or
     /// refuses and leaves the row as it was.
     pub fn show(&self, side: Side, number: usize, row: &mut [u8]) -> Result<(u8, u8), Refusal>
-        ensures shows { Shows (held self.now.ledger) (side_of side) number row.old (answer_by (λ levels. levels) result) row.new }
-        ensures promise { Shown (held self.now.ledger) (side_of side) (answer_by (λ levels. levels) result) row.new }
+        ensures shows { Shows self.now.ledger (side_of side) number row.old (answer_by (λ levels. levels) result) row.new }
+        ensures promise { Shown self.now.ledger (side_of side) (answer_by (λ levels. levels) result) row.new }
     {
         self.ledger.show(side, number, row)
     }

@@ -3,7 +3,7 @@ ghost use Rattle.std.specs.Prelude.{◌≡◌, ℕ, ◌≤◌, ◌++◌, map, If
 ghost use Rattle.promise.specs.Use.{Use};
 ghost use Rattle.promise.specs.Held.{figures_from, levels_to};
 ghost use Rattle.promise.specs.Rules.{Lived};
-ghost use Rattle.study.specs.Model.{held, word_of};
+ghost use Rattle.study.specs.Model.{word_of};
 ghost use Rattle.casetext.specs.Contents.{rows_of, content_of};
 ghost use Rattle.summary.specs.Lines.{search_line, level_lines, all_lines};
 ghost use Rattle.summary.specs.Uses.{Enterable, Sound, then_entered, searched_use, use_of};
@@ -18,8 +18,8 @@ use table::Table;
 
 // Enters the shares of each component.
 fn enter_rows<S: Structure + Drop>(study: &mut Study<S>, rows: &[Shares])
-    requires { Enterable (held study.old.ledger).tops (map rows_of rows.now) }
-    ensures lived { (u : Use) → Lived u (held study.old.ledger) → Lived (then_entered u 1 (map rows_of rows.now)) (held study.new.ledger) }
+    requires { Enterable study.old.ledger.tops (map rows_of rows.now) }
+    ensures lived { (u : Use) → Lived u study.old.ledger → Lived (then_entered u 1 (map rows_of rows.now)) study.new.ledger }
     ensures same { study.new.structure ≡ study.old.structure }
 {
     for (i, shares) in rows.iter().enumerate() {
@@ -34,7 +34,7 @@ fn searched<S: Structure + Drop>(
     rows: &[Shares],
 ) -> Result<(Study<S>, Word), AllocError>
     requires { Enterable (S.Structure.shape structure).tops (map rows_of rows.now) }
-    ensures { IfOk result (λ p. (number : ℕ) × Lived (searched_use (S.Structure.shape structure) (S.Structure.tags structure) (map rows_of rows.now) number (word_of p.1)) (held p.0.ledger)) }
+    ensures { IfOk result (λ p. (number : ℕ) × Lived (searched_use (S.Structure.shape structure) (S.Structure.tags structure) (map rows_of rows.now) number (word_of p.1)) p.0.ledger) }
 {
     let mut study = Study::open(heap, structure)?;
     enter_rows(&mut study, rows);
@@ -45,7 +45,7 @@ fn searched<S: Structure + Drop>(
 // The study of a case, searched to the end, and how its search ended.
 fn case_study(heap: Global, case: &Case) -> Result<(Study<Table<'_>>, Word), AllocError>
     requires { Sound (content_of case.now) }
-    ensures { IfOk result (λ p. (number : ℕ) × Lived (use_of (content_of case.now) number (word_of p.1)) (held p.0.ledger)) }
+    ensures { IfOk result (λ p. (number : ℕ) × Lived (use_of (content_of case.now) number (word_of p.1)) p.0.ledger) }
 {
     let table = Table::new(&case.tops, case.best, &case.tags, &case.levels);
     searched(heap, table, &case.rows)
@@ -58,8 +58,8 @@ fn add_level<S: Structure + Drop>(
     study: &Study<S>,
     level: u8,
 ) -> Result<(), AllocError>
-    requires { (1 ≤ level) × (level ≤ (held study.now.ledger).best) }
-    ensures { OnOk result (string_bytes out.new ≡ string_bytes out.old ++ level_lines level (figures_from (held study.now.ledger) level)) }
+    requires { (1 ≤ level) × (level ≤ study.now.ledger.best) }
+    ensures { OnOk result (string_bytes out.new ≡ string_bytes out.old ++ level_lines level (figures_from study.now.ledger level)) }
 {
     let figures = study.figures(level).unwrap();
     let lines = level_lines(heap, level, figures)?;
@@ -73,8 +73,8 @@ fn study_lines<S: Structure + Drop>(
     best: u8,
     word: Word,
 ) -> Result<String, AllocError>
-    requires { best ≤ (held study.now.ledger).best }
-    ensures { IfOk result (λ s. string_bytes s ≡ search_line (word_of word) ++ all_lines (figures_from (held study.now.ledger)) (levels_to best)) }
+    requires { best ≤ study.now.ledger.best }
+    ensures { IfOk result (λ s. string_bytes s ≡ search_line (word_of word) ++ all_lines (figures_from study.now.ledger) (levels_to best)) }
 {
     let mut out = search_line(heap, word)?;
     for level in 1..=best {

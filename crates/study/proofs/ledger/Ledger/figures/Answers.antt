@@ -1,31 +1,32 @@
 -- The figures are those of what the ledger holds.
-use Rattle.std.proofs.Common.{length, ap, ◌∙◌, arith}
+use Rattle.std.proofs.Common.{length, vec_items, vec_len, ap, ◌∙◌, arith}
 use Rattle.share.specs.Shares.{rounded}
-use Rattle.promise.specs.Held.{figures_from}
-use Rattle.study.specs.Model.{held, figures_in}
+use Rattle.study.specs.Model.{figures_in}
 use Rattle.tally.specs.declared.reading.Reading.TheVariants.{UpAt, UpOver, DownAt, DownOver}
 use Rattle.study.proofs.FromTallies.{held_entries, held_best, held_all, better_where, given_figures}
 use Rattle.study.proofs.ledger.Ledger.figures.Goals as goal
 
 pub returns : goal.returns
 returns c =
-    let t = c.args.self.now in
+    let t = c.self.inside in
     let level = c.args.level in
+    let n = vec_len t.tops in
+    let all-rows = vec_items t.rows in
     let paths = c.tally_level-paths in
     let cuts = c.tally_level-cuts in
-    let rows = c.deref.ensures in
-    let again = c.deref-3.ensures in
+    let rows = c.deref.ensures.value in
+    let long = c.deref.ensures.len ∙ c.self.invariant.sized in
+    let again = c.deref-3.ensures.value in
+    let again-long = c.deref-3.ensures.len ∙ c.self.invariant.sized in
     let path_list = c.deref-2.ensures.value in
     let Cut-list = c.deref-4.ensures.value in
     let low = c.better-low.ensures ∙ better_where t.finished UpOver _ _ _ _ _ _ c.then_some-2.ensures cuts.ensures.all
-    (held_best t level rows.value rows.len path_list UpAt _ paths.ensures.best)
-    (held_all t level again.value again.len Cut-list UpOver) in
+    (held_best n all-rows level rows long path_list UpAt _ paths.ensures.best)
+    (held_all n all-rows level again again-long Cut-list UpOver) in
     let high = c.rest-high.ensures ∙ ap rounded.rest (c.better.ensures ∙ better_where t.finished DownAt _ _ _ _ _ _ c.then_some.ensures paths.ensures.all
-    (held_best t level again.value again.len Cut-list DownOver _ cuts.ensures.best)
-    (held_all t level rows.value rows.len path_list DownAt)) in
-    let path-count = paths.ensures.count ∙
-    ap length (held_entries t level rows.value rows.len path_list) in
-    let cut-count = cuts.ensures.count ∙
-    ap length (held_entries t level again.value again.len Cut-list) in
-    given_figures level t.best (figures_in (c.better-low.result, c.rest-high.result, paths.result.count, cuts.result.count)) (figures_from (held t) level)
-    (omega arith) (omega arith) low high path-count cut-count
+    (held_best n all-rows level again again-long Cut-list DownOver _ cuts.ensures.best)
+    (held_all n all-rows level rows long path_list DownAt)) in
+    let path-count = paths.ensures.count ∙ ap length (held_entries n all-rows level rows long path_list) in
+    let cut-count = cuts.ensures.count ∙ ap length (held_entries n all-rows level again again-long Cut-list) in
+    rw (← c.self.view_is) (given_figures level t.best (figures_in (c.better-low.result, c.rest-high.result, paths.result.count, cuts.result.count)) _
+    (omega arith) (omega arith) low high path-count cut-count)
