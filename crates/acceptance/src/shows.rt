@@ -59,15 +59,15 @@ fn the_ends_of_both_lists(rt: HostRuntime) -> Result<(), Fail> {
 fn finds_a_cut_record(rt: HostRuntime) -> Result<(), Fail> {
     let mut study = four(rt.alloc())?;
     steps(&rt, &mut study, 16, 16, Word::Finished);
-    let mut found = (0, None);
+    let mut found = None;
     for number in 1..=10usize {
         let mut row = [9; 4];
         let levels = study.show(Side::Cuts, number, &mut row).ok();
         if row == [1, 1, 0, 0] {
-            found = (number, levels);
+            found = Some((number, levels));
         }
     }
-    assert_eq!(rt; found, (8, Some((1, 2))));
+    assert_eq!(rt; found, Some((8, Some((1, 2)))));
     Ok(())
 }
 

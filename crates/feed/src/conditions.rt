@@ -1,4 +1,4 @@
-// Conditions on a feed's contents.
+// Conditions on a feed's contents, the slices apart as in `Feed::check`.
 ghost use Rattle.std.specs.Prelude.{◌≡◌, ◌≤◌, length};
 ghost use Rattle.feed.specs.Feed.{wrong_lengths, wrong_ends};
 

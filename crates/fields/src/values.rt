@@ -19,6 +19,7 @@ pub struct Value<'a> {
 }
 
 /// The value of the line that begins with `key`, and the text after it.
+// A pair: a reader that changes in place would have to say in each contract what it is after a fault.
 pub fn keyed<'a>(
     text: &'a [u8],
     key: &[u8],
@@ -39,6 +40,7 @@ impl<'a> Value<'a> {
         numbers::number(self.text).ok_or(self.refused(Refusal::Value))
     }
 
+    // `list` and `levels` differ in what they read alone: one function over both would be handed the reading.
     /// The list of numbers that the value is.
     pub fn list(&self, heap: Global) -> Result<Vec<u32>, ReadError>
         ensures { Reads vec_items result (at_line self.now.line (or_refuse 41 (numbers_in self.now.text.now))) }

@@ -50,7 +50,8 @@ impl Share {
 
     /// The share in billionths.
     pub fn billionths(self) -> u64
-        ensures { result ≡ self }
+        ensures number { result ≡ self }
+        ensures within { result ≤ D }
     {
         self.value
     }

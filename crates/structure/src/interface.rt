@@ -34,7 +34,7 @@ pub trait Structure {
     fn vectors(&self) -> usize
         ensures { result ≡ vector_count (shape self.now).tops }
     {
-        // A loop, since a chain's product would ask a longer proof that each number on the way fits.
+        // A loop: of a chain's product the proof that each number on the way fits did not close.
         let mut count: usize = 1;
         for component in 1..=self.components() {
             count *= usize::from(self.top(component).unwrap_or(0)) + 1;

@@ -30,7 +30,7 @@ impl Ledger {
     {
         let mut up = [Share::none(); 7];
         let mut down = [Share::none(); 7];
-        // By place: the library says nothing of what is written through `iter_mut` in a `zip`.
+        // By place, since each answer fills both arrays; what is written through a zipped `iter_mut` the proof would not know.
         for level in 1..=self.best {
             let place = usize::from(level - 1);
             (up[place], down[place]) = self.enclosed(level);

@@ -3,7 +3,7 @@ ghost use Rattle.std.specs.Prelude.{◌≡◌, ◌<◌, ◌≤◌, false, IsSome
 ghost use Rattle.std.specs.Option.{is_some};
 ghost use Rattle.study.specs.Examining.{FindsLevels, record_over, full_for, Lists, Examines};
 
-use crate::ledger::Ledger;
+use crate::ledger::{Ledger, MOST_RECORDS};
 use crate::neighbours::Vector;
 use crate::vectors::vector_of;
 use structure::Structure;
@@ -21,7 +21,7 @@ pub struct Levels {
 fn is_full(list: &[Record], under: u8, last: u8) -> bool
     ensures { result ≡ full_for list.now under last }
 {
-    under < last && list.len() >= 256
+    under < last && list.len() >= MOST_RECORDS
 }
 
 // Lists the vector for the levels over `under` up to `last`, if there are any.

@@ -2,6 +2,9 @@
 use std::marker::Model;
 use tally::{Record, Row};
 
+/// How many records a list may hold.
+pub(crate) const MOST_RECORDS: usize = 256;
+
 // What a study holds beside its structure. The tops, the best level and the number of vectors are the structure's, kept
 // from the open on, so that only a step asks the structure again. Both lists have room for 256 records from the open on.
 // The tops and the rows are two lists, since the tops are lent as one slice, for the order of the vectors, and the rows one by one.

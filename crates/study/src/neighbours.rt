@@ -18,6 +18,7 @@ impl Vector<'_> {
         requires { i < length self.now.ranks.now }
         ensures { result ≡ level_if_within (S.Structure.shape structure.now) (slice_set self.now.ranks.now i rank) }
     {
+        // Twelve places: no call after the open asks for memory.
         let mut ranks = [0u8; 12];
         let near = &mut ranks[..self.ranks.len()];
         near.copy_from_slice(self.ranks);

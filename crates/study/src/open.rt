@@ -6,13 +6,11 @@ ghost use Rattle.structure.specs.Shape.{vector_count};
 ghost use Rattle.tally.specs.Model.{rows_of};
 ghost use Rattle.study.specs.Model.{fresh};
 
-use crate::ledger::Ledger;
+use crate::ledger::{Ledger, MOST_RECORDS};
 use crate::study::Study;
 use std::alloc::{AllocError, Global};
 use structure::{Structure, vector_count};
 use tally::Row;
-
-const MOST_RECORDS: usize = 256;
 
 impl<S: Structure + Drop> Study<S> {
     /// Opens a study: all shares 0, no records, no vector examined. The one call that asks for memory.

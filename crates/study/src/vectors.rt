@@ -8,6 +8,7 @@ pub(crate) fn vector_of(tops: &[u8], number: usize) -> [u8; 12]
     requires { length tops.now ≤ 12 }
     ensures { number < vector_count tops.now → take (length tops.now) result ≡ vector-numbered tops.now number }
 {
+    // Twelve places, as in a record: no call after the open asks for memory.
     let mut vector = [0u8; 12];
     let mut left = number;
     // By the place: what is written through a zipped mutable iterator is not known to the proof after the loop.

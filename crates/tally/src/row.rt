@@ -4,7 +4,7 @@ use std::marker::Model;
 
 /// The shares of a component for the ranks from 1 to its top: up, that it stays at the rank or higher; down, that it
 /// stays below it.
-// Fixed arrays, since no call of a study after its open asks for memory.
+// Fixed arrays, since no call of a study after its open asks for memory; one top for both, so that no fact ties two lengths.
 #[derive(Clone, Copy)]
 pub struct Row {
     pub(crate) top: usize,
