@@ -96,11 +96,11 @@ def main():
             if path.endswith(("Answers.antt", "Invariants.antt", ".rt", "Lib.antt")):
                 continue
             for found in re.finditer(r"^ *(?:abbrev |unfoldable )?(?:pub )?(?:record |data )?([\w'\-₀-₉]+) :", text, re.M):
-                name = found.group(1)
-                inside = len([w for w in re.findall(r"[\w'\-₀-₉]+", text) if w == name])
-                definition = len(re.findall(rf"^ *(?:abbrev |unfoldable )?(?:pub )?{re.escape(name)}(?= )", text, re.M))
-                if words[name] == definition:
-                    print(f"{os.path.relpath(path, TOP)}  {name}")
+                name = re.escape(found.group(1))
+                # its signature, and the clauses that define it, recursive calls left aside
+                own = re.findall(rf"^ *(?:abbrev |unfoldable )?(?:pub )?(?:record |data )?{name}(?: :|[^\n=]* =(?: |$))", text, re.M)
+                if words[found.group(1)] == len(own):
+                    print(f"{os.path.relpath(path, TOP)}  {found.group(1)}")
     else:
         print(__doc__.strip())
         return 2
