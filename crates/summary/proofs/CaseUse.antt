@@ -1,11 +1,8 @@
 -- What the whole use of a case's study gives. Assumes nothing.
-use Rattle.std.proofs.Common.{◌≡◌, ℕ, suc, ◌+◌, ◌-◌, ◌<◌, ◌≤◌, cond, List, [], ◌∷◌, ◌++◌, length, take, set, sym, refl, ap, ◌∙◌, subst, append_assoc, append-nil, arith, take-suc-set}
+use Rattle.std.proofs.Common.{◌≡◌, ℕ, suc, ◌+◌, ◌-◌, ◌<◌, ◌≤◌, List, [], ◌∷◌, ◌++◌, length, take, set, sym, refl, ap, ◌∙◌, subst, append_assoc, append-nil, arith, take-suc-set}
 use Rattle.std.proofs.lemmas.List.{map-set, take_all, length-set, length-map}
 use Rattle.structure.specs.Refusals.{given}
 use Rattle.structure.specs.Shape.{Shape, Lawful}
-use Rattle.table.specs.Table.{Passes}
-use Rattle.table.specs.Binary.{binary_shape, binary_tags}
-use Rattle.table.specs.Contents.{made_shape, made_tags}
 use Rattle.promise.specs.Figures.{Rows}
 use Rattle.promise.specs.Use.{Use, opened, entered, Word, still_open, shape_of, StepRule, examined}
 use Rattle.promise.specs.Held.{Held, first_held, figures_from, levels_to}
@@ -49,26 +46,6 @@ rows_all : (s : Shape) (tags : List ℕ) (rows : List Rows) → Lawful s → len
 rows_all s tags rows lawful tagged all =
     let first = ap (λ h. h.rows) (lived_left (opened s tags) (first_held s) (lawful, tagged, refl)).1 in
     rows_entered (opened s tags) 0 rows (ap length (sym first) ∙ simp length-map (omega (arith, all)))
-
--- ## A table that passes its tests is made of what it was given
-
--- so the use of its study is the case's
-module _ (c : Content) (tops tags levels : List ℕ) (t : tops ≡ c.tops) (g : tags ≡ c.tags) (l : levels ≡ c.levels) (passes : Passes c.tops c.best c.tags c.levels) where
-  shape_made : made_shape tops c.best tags levels ≡ shape_in c
-  shape_made =
-      ap (λ x. made_shape x c.best tags levels) t ∙ ap (λ x. made_shape c.tops c.best x levels) g
-      ∙ ap (λ x. made_shape c.tops c.best c.tags x) l ∙ ap (λ b. cond b (shape_in c) binary_shape) passes
-
-  tags_made : made_tags tops c.best tags levels ≡ c.tags
-  tags_made =
-      ap (λ x. made_tags x c.best tags levels) t ∙ ap (λ x. made_tags c.tops c.best x levels) g
-      ∙ ap (λ x. made_tags c.tops c.best c.tags x) l ∙ ap (λ b. cond b c.tags binary_tags) passes
-
-  pub lived_case : (s : Shape) (names : List ℕ) (rows : List Rows) (number : ℕ) (word : Word) (h : Held) → s ≡ made_shape tops c.best tags levels → names ≡ made_tags tops c.best tags levels → rows ≡ c.rows → Lived (searched_use s names rows number word) h → Lived (use_of c number word) h
-  lived_case s names rows number word h e n r lived =
-      subst (λ x. Lived (searched_use (shape_in c) c.tags x number word) h) r
-      (subst (λ x. Lived (searched_use (shape_in c) x rows number word) h) (n ∙ tags_made)
-      (subst (λ x. Lived (searched_use x names rows number word) h) (e ∙ shape_made) lived))
 
 -- ## What is reported
 

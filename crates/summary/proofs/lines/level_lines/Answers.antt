@@ -13,4 +13,4 @@ returns c =
     let of : ℕ → ℕ → Figures = λ low high. record { low = low; high = high; paths = c.args.figures.2; cuts = c.args.figures.3 } in
     let written = of c.billionths-low.result c.billionths-high.result in
     IfOk-weaker c.format.result (λ s. string_bytes s ≡ level_format j written) (λ s. string_bytes s ≡ level_lines j (figures_in c.args.figures))
-    (λ s e. e ∙ level_format_lines j written ∙ ap₂ (λ low high. level_lines j (of low high)) c.billionths-low.ensures c.billionths-high.ensures) c.format.ensures.ok
+    (λ s e. e ∙ level_format_lines j written ∙ ap₂ (λ low high. level_lines j (of low high)) c.billionths-low.ensures.number c.billionths-high.ensures.number) c.format.ensures.ok

@@ -1,10 +1,8 @@
 -- Each component's shares are accepted, since the rows can be entered.
-use Rattle.std.proofs.Common.{◌≤◌, map, length, ◌∙◌, subst}
-use Rattle.std.proofs.lemmas.List.{take_all, length-map}
+use Rattle.std.proofs.Common.{map, ◌∙◌}
+use Rattle.std.proofs.lemmas.List.{length-map}
 use Rattle.structure.specs.Refusals.{verdict}
-use Rattle.promise.specs.Rules.{Lived}
 use Rattle.casetext.specs.Contents.{rows_of}
-use Rattle.summary.specs.Uses.{then_entered}
 use Rattle.summary.proofs.Entering.{entering, ok_from_given, lived_more}
 use Rattle.summary.proofs.studied.enter_rows.Goals as goal
 
@@ -23,12 +21,3 @@ loop-i-preserved g c =
       turn.tops_kept,
       c.enter.ensures.same ∙ c.loop-i.invariant.2,
     )
-
-pub returns : goal.returns
-returns g c =
-    let rows = map rows_of c.args.rows.now in
-    let left : length rows ≤ c.loop-i.i = simp length-map c.loop-i-test.false in
-    record {
-      lived = λ u lived. subst (λ rs. Lived (then_entered u 1 rs) c.loop-i.study.ledger) (take_all c.loop-i.i rows left) (c.loop-i.invariant.0 u lived);
-      same = c.loop-i.invariant.2;
-    }
