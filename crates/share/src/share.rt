@@ -25,6 +25,7 @@ impl Model for Share {
 
 impl Share {
     /// The share of this many billionths; none where that is over the whole.
+    // An `Option` and no `TryFrom`: an error type would name the one thing that none says already.
     pub fn new(billionths: u64) -> Option<Share>
         ensures { result ≡ (if nat_le billionths D then Some billionths else None) }
     {
