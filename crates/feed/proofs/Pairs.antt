@@ -1,9 +1,10 @@
 -- The weighted sum over the pairs of a weight and a rank, and how large it can be. Assumes nothing.
-use Rattle.std.proofs.Common.{◌≡◌, ℕ, suc, ◌+◌, ◌*◌, ◌≤◌, List, [], ◌∷◌, length, get_or, sum_by, Fits, mul-le-mul, arith, refl, ap, ◌∙◌}
+use Rattle.std.proofs.Common.{◌≡◌, ℕ, suc, ◌+◌, ◌*◌, ◌≤◌, List, [], ◌∷◌, length, get_or, sum_by, Fits, arith, refl, ap, ◌∙◌}
 use Rattle.std.specs.Int.{w8, w16}
 use Rattle.std.specs.List.{zip}
 use Rattle.std.proofs.lemmas.List.Sums.{sum_by-cons}
 use Rattle.feed.specs.Feed.{weighted}
+use Rattle.feed.proofs.Summed.{product_small}
 
 -- weight and rank pair by pair
 pub weighted_zip : (weights ranks : List ℕ) → sum_by (λ p. p.0 * p.1) (zip weights ranks) ≡ weighted weights ranks
@@ -18,6 +19,4 @@ pub weighted_few : (weights ranks : List ℕ) → ((i : ℕ) → Fits w16 (get_o
 weighted_few [] ranks h k = omega arith
 weighted_few (w ∷ weights) [] h k = omega arith
 weighted_few (w ∷ weights) (r ∷ ranks) h k =
-    let a : w ≤ 65535 = omega (arith, h 0) in
-    let b : r ≤ 255 = omega (arith, k 0) in
-    omega (arith, mul-le-mul a b, weighted_few weights ranks (λ i. h (suc i)) (λ i. k (suc i)))
+    omega (arith, product_small w r (h 0) (k 0), weighted_few weights ranks (λ i. h (suc i)) (λ i. k (suc i)))
