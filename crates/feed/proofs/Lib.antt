@@ -1,4 +1,4 @@
 -- The lemmas of the crate, each file after those that it uses.
 mod Within
-mod Summed
+pub mod Summed
 mod Pairs

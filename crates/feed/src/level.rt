@@ -17,6 +17,6 @@ pub(crate) fn thresholds_reached(thresholds: &[u32], sum: u32) -> u8
 {
     thresholds
         .iter()
-        .filter(|threshold| **threshold <= sum)
-        .count() as u8
+        .map(|threshold| u8::from(*threshold <= sum))
+        .sum()
 }

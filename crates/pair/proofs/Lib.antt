@@ -1,3 +1,3 @@
 -- The lemmas of the crate, each file after those that it uses.
 mod Levels
-mod Places
+pub mod Places

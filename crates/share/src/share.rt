@@ -1,5 +1,5 @@
 // A share, and the three operations of which every figure is made.
-ghost use Rattle.std.specs.Prelude.{◌≡◌, ℕ, ◌≤◌, if◌then◌else◌, Some, None, nat_le};
+ghost use Rattle.std.specs.Prelude.{◌≡◌, ◌≤◌, if◌then◌else◌, Some, None, nat_le};
 ghost use Rattle.share.specs.Shares.{D, rounded};
 
 use std::marker::Model;
@@ -14,9 +14,14 @@ pub struct Share {
 }
 
 impl Model for Share {
+    ghost use Rattle.std.specs.Prelude.{ℕ, ◌≤◌};
+    ghost use Rattle.share.specs.Shares.{D};
+
     ghost Value = { ℕ };
 
-    ghost view = { λ s. s.value };
+    ghost use Rattle.share.specs.Billionths.{billionths_in};
+
+    ghost view = { billionths_in };
 
     ghost invariant = { λ s. s.value ≤ D };
 

@@ -1,7 +1,7 @@
 -- The number of vectors as a product of tops, and where it is small. Assumes nothing.
 use Rattle.std.proofs.Common.{◌≡◌, ℕ, ◌+◌, ◌-◌, ◌*◌, ◌<◌, ◌≤◌, List, length, get_or, drop, Some, None, ap, ⊎_elim, mul-le-mul_left, arith}
 use Rattle.std.proofs.lemmas.Bool.{cases_lt, le-leb, lt-leb}
-use Rattle.std.proofs.lemmas.List.{at_drop_more}
+use Rattle.std.proofs.lemmas.List.{at_drop_more, at_drop_all}
 use Rattle.structure.specs.Shape.{vector_count}
 use Rattle.structure.specs.Questions.{count_if_few}
 use Rattle.structure.proofs.Numbers.{count_pos}
@@ -20,6 +20,9 @@ module _ (tops : List ℕ) where
       let one_more : i - 1 + 1 ≡ i = omega arith in
       rw one_more at (product_more (i - 1) n top (omega arith) e t)
 
+  pub product_all : (i n : ℕ) → length tops ≤ i → Product i n → n ≡ vector_count tops
+  product_all i n h e = omega (arith, e, ap (λ c. n * c) (at_drop_all vector_count tops i h))
+
   pub product_least : (i n : ℕ) → Product i n → n ≤ vector_count tops
   product_least i n e = omega (arith, e, mul-le-mul_left n (count_pos (drop i tops)))
 
@@ -35,4 +38,10 @@ module _ (tops : List ℕ) where
   count_if_some n e = ⊎_elim
       (λ l. let d = many l in let z : ◌≡◌ {A = ℕ} 0 1 = cc in absurd (omega arith))
       (λ l. let d = few (vector_count tops) l (omega arith) in let f : n ≡ vector_count tops = cc in (f, omega arith))
+      (cases_lt 65536 (vector_count tops))
+
+  pub count_if_none : count_if_few tops ≡ None → 65536 < vector_count tops
+  count_if_none e = ⊎_elim
+      (λ l. l)
+      (λ l. let d = few (vector_count tops) l (omega arith) in let z : ◌≡◌ {A = ℕ} 0 1 = cc in absurd (omega arith))
       (cases_lt 65536 (vector_count tops))

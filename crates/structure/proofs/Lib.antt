@@ -2,6 +2,7 @@
 pub mod Tests
 pub mod Below
 pub mod Some
+pub mod Any
 pub mod Neighbours
 pub mod Neighbourhood
 pub mod Minimal

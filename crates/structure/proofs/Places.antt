@@ -1,5 +1,6 @@
 -- The ranks of a vector place by place, and a rank put in place of one of them. Assumes nothing.
-use Rattle.std.proofs.Common.{ℕ, zero, suc, ◌+◌, ◌-◌, ◌<◌, ◌≤◌, T, leb, List, [], ◌∷◌, get_or, set, arith, le→leb, leb→le}
+use Rattle.std.proofs.Common.{◌≡◌, ℕ, zero, suc, ◌+◌, ◌-◌, ◌<◌, ◌≤◌, T, leb, List, [], ◌∷◌, get_or, set, ◌∙◌, arith, le→leb, leb→le}
+use Rattle.std.proofs.lemmas.List.{set-set, set-get_or}
 use Rattle.structure.specs.Shape.{within}
 use Rattle.structure.proofs.Tests.{both, left, right}
 
@@ -27,3 +28,7 @@ within_raise tops v i t h = within_set tops v i (get_or v i 0 + 1) t (omega arit
 
 pub within_lower : (tops v : List ℕ) (i : ℕ) → T (within tops v) → T (within tops (set v i (get_or v i 0 - 1)))
 within_lower tops v i t = within_set tops v i (get_or v i 0 - 1) t (omega (arith, within_at tops v i t))
+
+-- the rank put back
+pub put_back : (v : List ℕ) (i r : ℕ) → set (set v i r) i (get_or v i 0) ≡ v
+put_back v i r = set-set v i r (get_or v i 0) ∙ set-get_or v i 0

@@ -1,14 +1,15 @@
 -- What rises with every single rank rises with the vector, and the vectors one rank higher place by place. Assumes nothing.
-use Rattle.std.proofs.Common.{◌≡◌, ℕ, zero, suc, ◌+◌, ◌<◌, ◌≤◌, Bool, false, T, ltb, leb, List, [], ◌∷◌, map, length, get_or, set, refl, ap, inl, inr, ⊎_elim, le_trans, le_refl, le_of_suc-le-suc, add-one, arith, le→leb, leb→le}
+use Rattle.std.proofs.Common.{◌≡◌, ℕ, zero, suc, ◌+◌, ◌<◌, ◌≤◌, Bool, true, false, T, ltb, leb, List, [], ◌∷◌, map, length, get_or, set, refl, ap, inl, inr, ⊎_elim, le_trans, le_refl, le_of_suc-le-suc, add-one, arith, le→leb, leb→le}
 use Rattle.std.specs.List.{AllByRecursion}
-use Rattle.std.proofs.lemmas.Bool.{or_parts, cases_lt, cond_both, ltb-false, lt-ltb}
-use Rattle.std.proofs.ByRecursion.{All-get_or}
-use Rattle.structure.specs.Shape.{within, AllBelow, vectors}
-use Rattle.structure.specs.Order.{number_in}
+use Rattle.std.proofs.lemmas.Bool.{cases_lt, cond_both, ltb-true, ltb-false, lt-ltb, le-ltb}
+use Rattle.std.proofs.ByRecursion.{All-weaker, All-map}
+use Rattle.structure.specs.Shape.{within, AllBelow, vector_count, vectors}
+use Rattle.structure.specs.Order.{number_in, vector_of}
 use Rattle.structure.specs.Minimal.{upper}
 use Rattle.structure.specs.Conditions.{any}
 use Rattle.structure.proofs.Tests.{both, left, right}
 use Rattle.structure.proofs.Some.{Some, some_with, some_map, some_one}
+use Rattle.structure.proofs.Any.{any_none, all_fail, any_some, any_none_at, any_at, fails_at}
 use Rattle.structure.proofs.Vectors.{length_vectors}
 use Rattle.structure.proofs.Numbers.{vector_of_number, number_inside, number_vector}
 
@@ -52,6 +53,25 @@ rises_by_neighbours (a ∷ tops) f steady (r ∷ v) (q ∷ w) t h =
 
 -- ## The vectors one rank higher, by places
 
+-- w is v with one rank more at some place
+abbrev pub Raised : List ℕ → List ℕ → List ℕ → Type 0
+Raised tops v w = (i : ℕ) × (i < length tops) × (get_or v i 0 < get_or tops i 0) × (w ≡ raised v i)
+
+raised_later : (a r : ℕ) (tops v w : List ℕ) → Raised tops v w → Raised (a ∷ tops) (r ∷ v) (r ∷ w)
+raised_later a r tops v w p = (suc p.0, omega (arith, p.1), p.2, ap (λ u. r ∷ u) p.3)
+
+pub upper_raised : (tops v : List ℕ) → AllByRecursion (λ w. Raised tops v w) (upper tops v)
+upper_raised [] v = tt
+upper_raised (a ∷ tops) [] = tt
+upper_raised (a ∷ tops) (r ∷ v) =
+    let rest : AllByRecursion (λ w. Raised (a ∷ tops) (r ∷ v) w) (map (λ w. r ∷ w) (upper tops v)) =
+    All-map (λ w. Raised (a ∷ tops) (r ∷ v) w) (λ w. r ∷ w) (upper tops v)
+    (All-weaker (λ w. Raised tops v w) (λ w. Raised (a ∷ tops) (r ∷ v) (r ∷ w)) (λ w p. raised_later a r tops v w p)
+    (upper tops v) (upper_raised tops v)) in
+    cond_both (ltb r a) (((r + 1) ∷ v) ∷ map (λ w. r ∷ w) (upper tops v)) (map (λ w. r ∷ w) (upper tops v)) (AllByRecursion (λ w. Raised (a ∷ tops) (r ∷ v) w))
+    (λ e. ((0, omega arith, ltb-true r a e, refl), rest))
+    (λ e. rest)
+
 -- one of them has one rank more at place i
 pub upper_has : (tops v : List ℕ) (i : ℕ) → T (within tops v) → i < length tops → get_or v i 0 < get_or tops i 0 →
     Some (λ w. w ≡ raised v i) (upper tops v)
@@ -68,16 +88,23 @@ upper_has (a ∷ tops) (r ∷ v) (suc i) t h l =
 
 -- ## The test for a fall
 
--- what is known of a test that passes at no element
-module _ {A : Type 0} (p : A → Bool) where
-  all_fail : (xs : List A) → any p xs ≡ false → AllByRecursion (λ x. p x ≡ false) xs
-  all_fail [] e = tt
-  all_fail (x ∷ xs) e = let h = or_parts (p x) (any p xs) e in (h.0, all_fail xs h.1)
-
-  fails_at : (xs : List A) (k : ℕ) (d : A) → k < length xs → any p xs ≡ false → p (get_or xs k d) ≡ false
-  fails_at xs k d h e = All-get_or (λ x. p x ≡ false) xs k d h (all_fail xs e)
-
 module _ (tops : List ℕ) (f : List ℕ → ℕ) (v : List ℕ) where
+  -- one rank more lowers the level
+  pub falls_at : (i : ℕ) → T (within tops v) → i < length tops → get_or v i 0 < get_or tops i 0 → f (raised v i) < f v →
+      any (λ w. ltb (f w) (f v)) (upper tops v) ≡ true
+  falls_at i t h l b =
+      any_some (λ w. ltb (f w) (f v)) (upper tops v)
+      (some_with (λ w. Raised tops v w) (λ w. w ≡ raised v i) (λ w. ltb (f w) (f v) ≡ true) (λ w p e. rw e (lt-ltb (f (raised v i)) (f v) b))
+      (upper tops v) (upper_raised tops v) (upper_has tops v i t h l))
+
+  -- none does
+  pub falls_nowhere : SteadyAt tops f v → any (λ w. ltb (f w) (f v)) (upper tops v) ≡ false
+  falls_nowhere steady =
+      any_none (λ w. ltb (f w) (f v)) (upper tops v)
+      (All-weaker (λ w. Raised tops v w) (λ w. ltb (f w) (f v) ≡ false)
+      (λ w p. rw p.3 (le-ltb (f (raised v p.0)) (f v) (steady p.0 p.1 p.2)))
+      (upper tops v) (upper_raised tops v))
+
   -- where no vector one rank higher has a lower level
   pub steady_at : T (within tops v) → any (λ w. ltb (f w) (f v)) (upper tops v) ≡ false → SteadyAt tops f v
   steady_at t e i h l =
@@ -89,6 +116,15 @@ module _ (tops : List ℕ) (f : List ℕ → ℕ) (v : List ℕ) where
 -- ## A test at some vector, by numbers
 
 module _ (tops : List ℕ) (p : List ℕ → Bool) where
+  pub any_vector : (k : ℕ) → k < vector_count tops → p (vector_of tops k) ≡ true → any p (vectors tops) ≡ true
+  any_vector k h e =
+      any_at p (vectors tops) k [] (omega (arith, length_vectors tops)) (rw (vector_of_number tops k h) e)
+
+  pub no_vector : ((k : ℕ) → k < vector_count tops → p (vector_of tops k) ≡ false) → any p (vectors tops) ≡ false
+  no_vector fails =
+      any_none_at p (vectors tops) []
+      (λ k l. let h : k < vector_count tops = omega (arith, length_vectors tops) in rw (vector_of_number tops k h) (fails k h))
+
   -- where it fails at all, it fails at each
   pub vector_fails : any p (vectors tops) ≡ false → (v : List ℕ) → T (within tops v) → p v ≡ false
   vector_fails e v t =

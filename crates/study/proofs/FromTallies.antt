@@ -1,10 +1,12 @@
 -- The figures of a level from the tallies of the two lists that a ledger holds. Assumes nothing.
 use Rattle.std.proofs.Common.{◌≡◌, ℕ, ◌≤◌, Bool, true, false, cond, List, map, length, Option, unwrap_or, sym, ap, ◌∙◌, ap₂, arith}
+use lib.ListN.{length-map}
 use Rattle.std.proofs.lemmas.Bool.Decides.{nat_tests}
+use Rattle.std.proofs.lemmas.List.Sums.{length-filter, count_by-le-length}
 use Rattle.std.specs.Bool.{then_some}
 use Rattle.std.specs.Option.{option_map}
 use Rattle.share.specs.Shares.{rounded}
-use Rattle.structure.specs.Minimal.{Entry}
+use Rattle.structure.specs.Minimal.{Entry, covers}
 use Rattle.structure.specs.Conditions.{outside}
 use Rattle.structure.specs.Refusals.{refused, given}
 use Rattle.promise.specs.Figures.{of_level, shares_at, better, best_of, all_of}
@@ -35,6 +37,12 @@ module _ (n : ℕ) (all-rows : List Row) (level : ℕ) {rows : List Row} {slice 
   pub held_all : (reading : Reading) → all_of rounded (shares_by reading rows) (entries_at level rows slice) ≡
       all_of rounded (shares_at (reading_of reading) (map rows_of all-rows)) entries
   held_all reading = held_by (all_of rounded) reading
+
+-- a level has no more entries than the list holds
+pub entries_few : (n level : ℕ) (records : List Record) → length (of_level level (map (entry_of n) records)) ≤ length records
+entries_few n level records =
+    let all = map (entry_of n) records in
+    omega (arith, length-filter (covers level) all, count_by-le-length (covers level) all, length-map records (entry_of n))
 
 -- all vectors at once, asked for only where finished
 pub better_where : (finished : Bool) (by : Reading) (f : Reading → ℕ) (a a' b' : ℕ) (asked : Option Reading) (together : Option ℕ) →

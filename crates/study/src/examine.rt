@@ -82,8 +82,9 @@ impl Ledger {
         ensures counts { IsSome result → self.new.examined ≡ self.old.examined + 1 }
     {
         let vector = vector_of(&self.tops, self.examined);
+        let places = &vector;
         let ranks = &vector[..self.tops.len()];
-        let levels = self.levels(structure, Vector { ranks })?;
+        let levels = self.levels(structure, Vector { places, ranks })?;
         self.list(vector, levels)
     }
 }

@@ -1,10 +1,11 @@
 // The two figures of a level.
-ghost use Rattle.std.specs.Prelude.{◌≡◌, unwrap_or, option_map};
+ghost use Rattle.std.specs.Prelude.{◌≡◌, ◌≤◌, unwrap_or, option_map, IfOk};
 ghost use Rattle.share.specs.Shares.{rounded};
 ghost use Rattle.structure.specs.Refusals.{answer_by};
 ghost use Rattle.promise.specs.Calls.{Answers};
 ghost use Rattle.promise.specs.Promise.{Promised};
 ghost use Rattle.study.specs.Model.{figures_in};
+ghost use Rattle.study.specs.Bounds.{Bounded};
 
 use crate::ledger::Ledger;
 use crate::study::Study;
@@ -15,7 +16,9 @@ use tally::{Reading, tally_level};
 impl Ledger {
     // The figures of a level with its path and cut records counted.
     pub(crate) fn figures(&self, level: u8) -> Result<(Share, Share, usize, usize), Refusal>
-        ensures { Answers self.now level (answer_by figures_in result) }
+        ensures answers { Answers self.now level (answer_by figures_in result) }
+        ensures counted { IfOk result (λ a. (a.2 ≤ 256) × (a.3 ≤ 256)) }
+        ensures bounded { Bounded self.now }
     {
         if level < 1 || level > self.best {
             return Err(Refusal::Level);
@@ -51,6 +54,8 @@ impl<S: Structure + Drop> Study<S> {
     /// The low and the high figure of a level, with its path and cut records counted.
     pub fn figures(&self, level: u8) -> Result<(Share, Share, usize, usize), Refusal>
         ensures answers { Answers self.now.ledger level (answer_by figures_in result) }
+        ensures counted { IfOk result (λ a. (a.2 ≤ 256) × (a.3 ≤ 256)) }
+        ensures bounded { Bounded self.now.ledger }
         ensures promise { Promised self.now.ledger level (answer_by figures_in result) }
     {
         self.ledger.figures(level)

@@ -21,23 +21,15 @@ pub struct Ledger {
 }
 
 impl Model for Ledger {
-    ghost use Rattle.std.specs.Prelude.{◌≡◌, ℕ, ◌<◌, ◌≤◌, map, vec_items, vec_len, vec_capacity, slice_index};
+    ghost use Rattle.std.specs.Prelude.{◌≡◌, ℕ, ◌<◌, ◌≤◌, vec_len, vec_capacity, slice_index};
     ghost use Rattle.structure.specs.Shape.{vector_count};
     ghost use Rattle.promise.specs.Held.{Held};
-    ghost use Rattle.tally.specs.Model.{rows_of, entry_of};
 
     ghost Value = { Held };
 
-    ghost view = { λ t. record {
-      tops = vec_items t.tops;
-      best = t.best;
-      vectors = t.vectors;
-      rows = map rows_of (vec_items t.rows);
-      examined = t.examined;
-      finished = t.finished;
-      paths = map (entry_of (vec_len t.tops)) (vec_items t.paths);
-      cuts = map (entry_of (vec_len t.tops)) (vec_items t.cuts);
-    } };
+    ghost use Rattle.study.specs.Holding.{held};
+
+    ghost view = { held };
 
     ghost invariant = { λ t. record {
       few : vec_len t.tops ≤ 12;

@@ -1,15 +1,18 @@
 // The levels of the vectors one rank lower and one rank higher.
-ghost use Rattle.std.specs.Prelude.{◌≡◌, ◌<◌, ◌≤◌, length, slice_set};
+ghost use Rattle.std.specs.Prelude.{◌≡◌, ◌<◌, ◌≤◌, length, take, slice_set};
 ghost use Rattle.structure.specs.Questions.{level_if_within};
 ghost use Rattle.study.specs.Examining.{FindsHighest, FindsLowest};
 
 use structure::Structure;
 
-/// A vector of at most 12 components.
+/// A vector of at most 12 components, with the twelve places that it stands in.
+// The places are copied at each neighbour: twelve bytes at once, where a copy of as many as there are ranks would be a call.
 #[derive(Clone, Copy)]
 pub(crate) struct Vector<'a> {
+    pub(crate) places: &'a [u8; 12],
     pub(crate) ranks: &'a [u8],
     ghost short: { length ranks.now ≤ 12 },
+    ghost first: { ranks.now ≡ take (length ranks.now) places.now },
 }
 
 impl Vector<'_> {
@@ -18,12 +21,9 @@ impl Vector<'_> {
         requires { i < length self.now.ranks.now }
         ensures { result ≡ level_if_within (S.Structure.shape structure.now) (slice_set self.now.ranks.now i rank) }
     {
-        // Twelve places: no call after the open asks for memory.
-        let mut ranks = [0u8; 12];
-        let near = &mut ranks[..self.ranks.len()];
-        near.copy_from_slice(self.ranks);
+        let mut near = *self.places;
         near[i] = rank;
-        structure.level(near)
+        structure.level(&near[..self.ranks.len()])
     }
 
     // The highest level one rank lower, 0 where there is none lower; none where the structure does not answer.

@@ -2,9 +2,11 @@
 #![tactic(auto)]
 
 mod check;
+mod conditions;
 mod falls;
 mod table;
 mod vector_number;
 
 pub use check::check_levels;
+pub use conditions::any_outside;
 pub use table::Table;

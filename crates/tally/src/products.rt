@@ -7,13 +7,15 @@ use crate::reading::Reading;
 use crate::row::Row;
 use share::Share;
 
+// Both closures hold the reading itself, not a reference to it, so that it is the same for the whole loop.
+
 // The share of all components together, rounded down.
 pub(crate) fn share_of_all(rows: &[Row], vector: &[u8], reading: Reading) -> Share
     ensures { result ≡ share_of_all rounded (shares_by reading rows.now vector.now) }
 {
     rows.iter()
         .zip(vector)
-        .fold(Share::whole(), |product, (row, rank)| {
+        .fold(Share::whole(), move |product, (row, rank)| {
             product.times_down(row.read(reading, *rank))
         })
 }
@@ -24,7 +26,7 @@ pub(crate) fn share_of_any(rows: &[Row], vector: &[u8], reading: Reading) -> Sha
 {
     rows.iter()
         .zip(vector)
-        .fold(Share::whole(), |none, (row, rank)| {
+        .fold(Share::whole(), move |none, (row, rank)| {
             none.times_up(row.read(reading, *rank).rest())
         })
         .rest()

@@ -19,7 +19,9 @@ impl Model for Row {
 
     ghost Value = { Places };
 
-    ghost view = { λ r. record { top = r.top; up = r.up; down = r.down } };
+    ghost use Rattle.tally.specs.Kept.{kept};
+
+    ghost view = { kept };
 
     ghost invariant = { λ r. r.top ≤ 7 };
 

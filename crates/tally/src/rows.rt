@@ -68,14 +68,12 @@ impl Row {
         ensures { result ≡ reading_of reading (rows_of self.now) rank }
     {
         let rank = usize::from(rank);
-        let up = &self.up[..self.top];
-        let down = &self.down[..self.top];
         let (none, whole) = (Share::none(), Share::whole());
         match reading {
-            Reading::UpAt => share_at(up, rank, whole, none),
-            Reading::UpOver => share_at(up, rank + 1, whole, none),
-            Reading::DownAt => share_at(down, rank, none, whole),
-            Reading::DownOver => share_at(down, rank + 1, none, whole),
+            Reading::UpAt => share_at(&self.up[..self.top], rank, whole, none),
+            Reading::UpOver => share_at(&self.up[..self.top], rank + 1, whole, none),
+            Reading::DownAt => share_at(&self.down[..self.top], rank, none, whole),
+            Reading::DownOver => share_at(&self.down[..self.top], rank + 1, none, whole),
         }
     }
 }

@@ -5,8 +5,9 @@ ghost use Rattle.structure.specs.Refusals.{verdict};
 ghost use Rattle.table.specs.Table.{table_answer};
 
 use crate::check::check_levels;
+use crate::conditions::any_outside;
 use crate::table::Table;
-use structure::{Refusal, any_outside, is_outside};
+use structure::{Refusal, is_outside};
 
 impl Table<'_> {
     /// What is wrong with a table of these contents, the refusal with the smallest number first.
@@ -20,7 +21,7 @@ impl Table<'_> {
         if tags.len() != tops.len() {
             return Err(Refusal::Lengths);
         }
-        if any_outside(tops, 7) {
+        if any_outside(tops) {
             return Err(Refusal::Tops);
         }
         if is_outside(u64::from(best), 7) {

@@ -3,11 +3,11 @@ use Rattle.std.proofs.Common.{length, vec_items, vec_len, ap, ◌∙◌, arith}
 use Rattle.share.specs.Shares.{rounded}
 use Rattle.study.specs.Model.{figures_in}
 use Rattle.tally.specs.declared.reading.Reading.TheVariants.{UpAt, UpOver, DownAt, DownOver}
-use Rattle.study.proofs.FromTallies.{held_entries, held_best, held_all, better_where, given_figures}
+use Rattle.study.proofs.FromTallies.{held_entries, held_best, held_all, entries_few, better_where, given_figures}
 use Rattle.study.proofs.ledger.Ledger.figures.Goals as goal
 
-pub returns : goal.returns
-returns c =
+pub returns-clause-answers : goal.returns-clause-answers
+returns-clause-answers c =
     let t = c.self.inside in
     let level = c.args.level in
     let n = vec_len t.tops in
@@ -30,3 +30,16 @@ returns c =
     let cut-count = cuts.ensures.count ∙ ap length (held_entries n all-rows level again again-long Cut-list) in
     rw (← c.self.view_is) (given_figures level t.best (figures_in (c.better-low.result, c.rest-high.result, paths.result.count, cuts.result.count)) _
     (omega arith) (omega arith) low high path-count cut-count)
+
+-- neither list holds more than 256
+pub returns-clause-counted : goal.returns-clause-counted
+returns-clause-counted c =
+    let t = c.self.inside in
+    let level = c.args.level in
+    let n = vec_len t.tops in
+    let all-rows = vec_items t.rows in
+    let paths = c.tally_level-paths in
+    let cuts = c.tally_level-cuts in
+    let path-count = paths.ensures.count ∙ ap length (held_entries n all-rows level c.deref.ensures.value (c.deref.ensures.len ∙ c.self.invariant.sized) c.deref-2.ensures.value) in
+    let cut-count = cuts.ensures.count ∙ ap length (held_entries n all-rows level c.deref-3.ensures.value (c.deref-3.ensures.len ∙ c.self.invariant.sized) c.deref-4.ensures.value) in
+    (omega (arith, path-count, entries_few n level (vec_items t.paths), c.self.invariant.listed.0), omega (arith, cut-count, entries_few n level (vec_items t.cuts), c.self.invariant.listed.1))

@@ -5,4 +5,4 @@ use Rattle.study.specs.Model.{figures_in}
 use Rattle.study.proofs.study.Study.figures.Goals as goal
 
 pub returns-clause-promise : goal.returns-clause-promise
-returns-clause-promise g c = promised c.args.self.now.ledger c.args.level (answer_by figures_in c.figures.result) c.figures.ensures
+returns-clause-promise g c = promised c.args.self.now.ledger c.args.level (answer_by figures_in c.figures.result) c.figures.ensures.answers
