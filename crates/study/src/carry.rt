@@ -5,6 +5,7 @@ ghost use Rattle.structure.specs.Refusals.{verdict};
 ghost use Rattle.promise.specs.Held.{figures_from, carried_from};
 ghost use Rattle.promise.specs.Calls.{Carries};
 ghost use Rattle.tally.specs.Model.{rows_of};
+ghost use Rattle.study.specs.Bounds.{Bounded};
 
 use crate::ledger::Ledger;
 use crate::study::Study;
@@ -40,7 +41,8 @@ impl Ledger {
 
     // Sets a component's two rows to the figures of a module, or refuses and changes nothing.
     pub(crate) fn carry(&mut self, component: usize, part: &Ledger) -> Result<(), Refusal>
-        ensures { Carries self.old component part.now (verdict result) self.new }
+        ensures carries { Carries self.old component part.now (verdict result) self.new }
+        ensures bounded { Bounded self.new }
     {
         if component < 1 || component > self.tops.len() {
             return Err(Refusal::Component);
@@ -67,6 +69,7 @@ impl<S: Structure + Drop> Study<S> {
     ) -> Result<(), Refusal>
         ensures carries { Carries self.old.ledger component part.now.ledger (verdict result) self.new.ledger }
         ensures same { self.new.structure ≡ self.old.structure }
+        ensures bounded { Bounded self.new.ledger }
     {
         self.ledger.carry(component, &part.ledger)
     }

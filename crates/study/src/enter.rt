@@ -4,6 +4,7 @@ ghost use Rattle.std.specs.Borrow.{sem, Lends};
 ghost use Rattle.structure.specs.Refusals.{verdict};
 ghost use Rattle.promise.specs.Calls.{Enters};
 ghost use Rattle.study.specs.Changes.{with_row_at};
+ghost use Rattle.study.specs.Bounds.{Bounded};
 ghost use Rattle.tally.specs.Model.{rows_of};
 ghost use Rattle.study.specs.contracts.ledger.Ledger.{the_row as ledger-row};
 ghost use Rattle.tally.specs.contracts.row.Row.{the_row as row-row};
@@ -29,7 +30,8 @@ impl Ledger {
         up: &[u64],
         down: &[u64],
     ) -> Result<(), Refusal>
-        ensures { Enters self.old component (record { up = up.entry.now; down = down.now }) (verdict result) self.new }
+        ensures enters { Enters self.old component (record { up = up.entry.now; down = down.now }) (verdict result) self.new }
+        ensures bounded { Bounded self.new }
     {
         if component < 1 || component > self.tops.len() {
             return Err(Refusal::Component);
@@ -45,6 +47,7 @@ impl<S: Structure + Drop> Study<S> {
     pub fn enter(&mut self, component: usize, up: &[u64], down: &[u64]) -> Result<(), Refusal>
         ensures enters { Enters self.old.ledger component (record { up = up.entry.now; down = down.now }) (verdict result) self.new.ledger }
         ensures same { self.new.structure ≡ self.old.structure }
+        ensures bounded { Bounded self.new.ledger }
     {
         self.ledger.enter(component, up, down)
     }

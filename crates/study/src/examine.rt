@@ -1,6 +1,7 @@
 // Examining one vector.
 ghost use Rattle.std.specs.Prelude.{◌≡◌, ◌<◌, ◌≤◌, false, IsSome, ◌+◌, ◌++◌, length, take, vec_len, vec_capacity};
 ghost use Rattle.std.specs.Option.{is_some};
+ghost use Rattle.study.specs.Bounds.{Bounded};
 ghost use Rattle.study.specs.Examining.{FindsLevels, record_over, full_for, Lists, Examines};
 
 use crate::ledger::{Ledger, MOST_RECORDS};
@@ -61,7 +62,8 @@ impl Ledger {
     // needs one is full.
     fn list(&mut self, vector: [u8; 12], levels: Levels) -> Option<()>
         requires { self.old.examined < self.old.vectors }
-        ensures { Lists self.old (take (length self.old.tops) vector) levels (is_some result) self.new }
+        ensures lists { Lists self.old (take (length self.old.tops) vector) levels (is_some result) self.new }
+        ensures bounded { Bounded self.new }
     {
         let paths_full = is_full(&self.paths, levels.below, levels.level);
         let cuts_full = is_full(&self.cuts, levels.level, levels.above);
@@ -80,6 +82,7 @@ impl Ledger {
         requires { self.old.examined < self.old.vectors }
         ensures examines { Examines (S.Structure.shape structure.now) self.old (is_some result) self.new }
         ensures counts { IsSome result → self.new.examined ≡ self.old.examined + 1 }
+        ensures bounded { Bounded self.new }
     {
         let vector = vector_of(&self.tops, self.examined);
         let places = &vector;

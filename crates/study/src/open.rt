@@ -5,6 +5,7 @@ ghost use Rattle.promise.specs.Calls.{Opens};
 ghost use Rattle.structure.specs.Shape.{vector_count};
 ghost use Rattle.tally.specs.Model.{rows_of};
 ghost use Rattle.study.specs.Model.{fresh};
+ghost use Rattle.study.specs.Bounds.{Bounded};
 
 use crate::ledger::{Ledger, MOST_RECORDS};
 use crate::study::Study;
@@ -17,6 +18,7 @@ impl<S: Structure + Drop> Study<S> {
     pub fn open(heap: Global, structure: S) -> Result<Study<S>, AllocError>
         ensures opens { IfOk result (λ t. Opens (S.Structure.shape structure) t.ledger) }
         ensures kept { IfOk result (λ t. t.structure ≡ structure) }
+        ensures bounded { IfOk result (λ t. Bounded t.ledger) }
     {
         let tops = tops_of(heap, &structure)?;
         let ledger = Ledger::open(heap, tops, structure.best())?;
@@ -30,7 +32,8 @@ impl Ledger {
         requires few { vec_len tops ≤ 12 }
         requires low { (k : ℕ) → k < vec_len tops → slice_index tops.items k ≤ 7 }
         requires countable { vector_count tops.items ≤ 65536 }
-        ensures { IfOk result (λ t. t ≡ fresh tops.items best) }
+        ensures opens { IfOk result (λ t. t ≡ fresh tops.items best) }
+        ensures bounded { IfOk result (λ t. Bounded t) }
     {
         let vectors = vector_count(&tops).unwrap();
         let rows = zero_rows(heap, &tops)?;

@@ -5,6 +5,7 @@ ghost use Rattle.promise.specs.Calls.{list_of, Shows};
 ghost use Rattle.promise.specs.Shown.{Shown};
 ghost use Rattle.tally.specs.Model.{entry_of};
 ghost use Rattle.study.specs.Model.{side_of};
+ghost use Rattle.study.specs.Bounds.{Bounded};
 
 use crate::ledger::Ledger;
 use crate::side::Side;
@@ -15,7 +16,8 @@ use tally::Record;
 impl Ledger {
     // The records of one list.
     fn records(&self, side: Side) -> &[Record]
-        ensures { map (entry_of (length self.now.tops)) result.now ≡ list_of self.now (side_of side) }
+        ensures listed { map (entry_of (length self.now.tops)) result.now ≡ list_of self.now (side_of side) }
+        ensures bounded { Bounded self.now }
     {
         match side {
             Side::Paths => self.paths.as_slice(),
@@ -31,7 +33,8 @@ impl Ledger {
         number: usize,
         row: &mut [u8],
     ) -> Result<(u8, u8), Refusal>
-        ensures { Shows self.now (side_of side) number row.old (answer_by (λ levels. levels) result) row.new }
+        ensures shows { Shows self.now (side_of side) number row.old (answer_by (λ levels. levels) result) row.new }
+        ensures bounded { Bounded self.now }
     {
         let records = self.records(side);
         if number < 1 || number > records.len() {
@@ -51,6 +54,7 @@ impl<S: Structure + Drop> Study<S> {
     /// refuses and leaves the row as it was.
     pub fn show(&self, side: Side, number: usize, row: &mut [u8]) -> Result<(u8, u8), Refusal>
         ensures shows { Shows self.now.ledger (side_of side) number row.old (answer_by (λ levels. levels) result) row.new }
+        ensures bounded { Bounded self.now.ledger }
         ensures promise { Shown self.now.ledger (side_of side) (answer_by (λ levels. levels) result) row.new }
     {
         self.ledger.show(side, number, row)

@@ -2,6 +2,7 @@
 ghost use Rattle.std.specs.Prelude.{◌≡◌};
 ghost use Rattle.promise.specs.Calls.{Steps};
 ghost use Rattle.study.specs.Model.{word_of};
+ghost use Rattle.study.specs.Bounds.{Bounded};
 
 use crate::ledger::Ledger;
 use crate::study::Study;
@@ -11,7 +12,8 @@ use structure::Structure;
 impl Ledger {
     // Examines at most `budget` further vectors.
     pub(crate) fn step<S: Structure>(&mut self, structure: &S, budget: usize) -> (usize, Word)
-        ensures { Steps (S.Structure.shape structure.now) self.old budget result.0 (word_of result.1) self.new }
+        ensures steps { Steps (S.Structure.shape structure.now) self.old budget result.0 (word_of result.1) self.new }
+        ensures bounded { Bounded self.new }
     {
         let most = budget.min(self.vectors - self.examined);
         for number in 0..most {
@@ -33,6 +35,7 @@ impl<S: Structure + Drop> Study<S> {
     pub fn step(&mut self, budget: usize) -> (usize, Word)
         ensures steps { Steps (S.Structure.shape self.old.structure) self.old.ledger budget result.0 (word_of result.1) self.new.ledger }
         ensures same { self.new.structure ≡ self.old.structure }
+        ensures bounded { Bounded self.new.ledger }
     {
         self.ledger.step(&self.structure, budget)
     }

@@ -17,7 +17,7 @@ returns-clause-examines g c =
     let x = take (length h.tops) v in
     let asked : FindsLevels s h.tops h.best x c.levels.result =
     subst (λ n. FindsLevels s h.tops h.best (take n v) c.levels.result) (c.len.ensures ∙ c.self.inside.tops.ok.0 ∙ ap length tops) c.levels.ensures in
-    examined_listed s h c.list.new.self x c.in_ok-levels.levels (is_some c.list.result) c.list.ensures
+    examined_listed s h c.list.new.self x c.in_ok-levels.levels (is_some c.list.result) c.list.ensures.lists
     (own_levels s h x made c.requires c.levels.result asked c.in_ok-levels.levels c.in_ok-levels.was)
 
 pub returns-in_err-levels-clause-examines : goal.returns-in_err-levels-clause-examines

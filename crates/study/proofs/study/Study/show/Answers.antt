@@ -7,4 +7,4 @@ use Rattle.study.proofs.study.Study.show.Goals as goal
 pub returns-clause-promise : goal.returns-clause-promise
 returns-clause-promise g c =
     shows_met c.args.self.now.ledger (side_of c.args.side) c.args.number c.args.row.now (answer_by (λ levels. levels) c.show.result)
-    c.show.new.row c.show.ensures
+    c.show.new.row c.show.ensures.shows
