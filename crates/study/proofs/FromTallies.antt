@@ -38,11 +38,11 @@ module _ (n : ℕ) (all-rows : List Row) (level : ℕ) {rows : List Row} {slice 
       all_of rounded (shares_at (reading_of reading) (map rows_of all-rows)) entries
   held_all reading = held_by (all_of rounded) reading
 
--- a level has no more entries than the list holds
-pub entries_few : (n level : ℕ) (records : List Record) → length (of_level level (map (entry_of n) records)) ≤ length records
-entries_few n level records =
-    let all = map (entry_of n) records in
-    omega (arith, length-filter (covers level) all, count_by-le-length (covers level) all, length-map records (entry_of n))
+-- a level has no more entries than the list has records
+pub entries_few : (level : ℕ) (rows : List Row) (records : List Record) → length (entries_at level rows records) ≤ length records
+entries_few level rows records =
+    let all = map (entry_of (length rows)) records in
+    omega (arith, length-filter (covers level) all, count_by-le-length (covers level) all, length-map records (entry_of (length rows)))
 
 -- all vectors at once, asked for only where finished
 pub better_where : (finished : Bool) (by : Reading) (f : Reading → ℕ) (a a' b' : ℕ) (asked : Option Reading) (together : Option ℕ) →

@@ -3,6 +3,8 @@ use Rattle.std.specs.Prelude.{◌≡◌, ℕ, ◌<◌, ◌≤◌, length, slice_
 use Rattle.structure.specs.Shape.{vector_count}
 use Rattle.promise.specs.Held.{Held}
 
+-- at most 12 components, each with a top of at most 7 and its rows; so many vectors as the tops give, at most 65,536, and no more
+-- examined; at most 256 records in each list
 pub record Bounded (h : Held) : Type 0 where
   pub few : length h.tops ≤ 12
   pub low : (k : ℕ) → k < length h.tops → slice_index h.tops k ≤ 7

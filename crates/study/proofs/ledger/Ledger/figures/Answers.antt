@@ -34,12 +34,7 @@ returns-clause-answers c =
 -- neither list holds more than 256
 pub returns-clause-counted : goal.returns-clause-counted
 returns-clause-counted c =
-    let t = c.self.inside in
-    let level = c.args.level in
-    let n = vec_len t.tops in
-    let all-rows = vec_items t.rows in
-    let paths = c.tally_level-paths in
-    let cuts = c.tally_level-cuts in
-    let path-count = paths.ensures.count ∙ ap length (held_entries n all-rows level c.deref.ensures.value (c.deref.ensures.len ∙ c.self.invariant.sized) c.deref-2.ensures.value) in
-    let cut-count = cuts.ensures.count ∙ ap length (held_entries n all-rows level c.deref-3.ensures.value (c.deref-3.ensures.len ∙ c.self.invariant.sized) c.deref-4.ensures.value) in
-    (omega (arith, path-count, entries_few n level (vec_items t.paths), c.self.invariant.listed.0), omega (arith, cut-count, entries_few n level (vec_items t.cuts), c.self.invariant.listed.1))
+    let few = c.self.invariant.listed in (
+      omega (arith, c.tally_level-paths.ensures.count, entries_few c.args.level c.deref.result.now c.deref-2.result.now, ap length c.deref-2.ensures.value, few.0),
+      omega (arith, c.tally_level-cuts.ensures.count, entries_few c.args.level c.deref-3.result.now c.deref-4.result.now, ap length c.deref-4.ensures.value, few.1),
+    )
